@@ -38,15 +38,20 @@ registersBase third top = top * 0x1000000 + third / 8 * 0x80000
 unfoldable pub graphicsOn : ℕ → ℕ → Bool
 graphicsOn smram command = ltb 0 (gms smram) and eqb (command / 2 % 2) 1
 
-unfoldable pub mapOf : ℕ → State → Map
-mapOf tom s = record {
+-- SMRAM, 72h of device 0; 04h, 13h, 16h and 17h of device 1
+unfoldable pub mapFrom : ℕ → ℕ → ℕ → ℕ → ℕ → ℕ → ℕ → Map
+mapFrom tom smram miscc command gmadrTop mmadrThird mmadrTop = record {
   tom = tom;
-  smram = smramOf s;
-  window = windowSize (getD (s .dev0) 0x72 0);
-  gmadr = windowBase (getD (s .dev0) 0x72 0) (getD (s .dev1) 0x13 0);
-  mmadr = registersBase (getD (s .dev1) 0x16 0) (getD (s .dev1) 0x17 0);
-  on = graphicsOn (smramOf s) (getD (s .dev1) 0x04 0);
+  smram = smram;
+  window = windowSize miscc;
+  gmadr = windowBase miscc gmadrTop;
+  mmadr = registersBase mmadrThird mmadrTop;
+  on = graphicsOn smram command;
 }
+
+abbrev pub mapOf : ℕ → State → Map
+mapOf tom s =
+    mapFrom tom (smramOf s) (getD (s .dev0) 0x72 0) (getD (s .dev1) 0x04 0) (getD (s .dev1) 0x13 0) (getD (s .dev1) 0x16 0) (getD (s .dev1) 0x17 0)
 
 -- where the TSEG starts, TOM - T; and U = TOM - T - G
 abbrev pub tsegStart : Map → ℕ

@@ -15,6 +15,7 @@ use Rattle.gmch.specs.Table.{windowReach}
 use Rattle.gmch.specs.Mapped.{misfit, mappedValue, mappedWritten, tableWritten, lineOf}
 use Rattle.gmch.specs.Ring.{run}
 use Rattle.gmch.specs.declared.State.{State}
+use Rattle.gmch.specs.declared.Map.{Map}
 use Rattle.gmch.specs.declared.Regs.{Regs}
 use Rattle.gmch.specs.declared.Record.{Record}
 use Rattle.gmch.specs.declared.Answer.{Answer}
@@ -33,18 +34,23 @@ reached (At a) = Memory a
 reached (Denied c) = Refused c
 
 -- after routing: 10; or 9, 3, 4, 5, 7, 6
-unfoldable pub resolved : ℕ → State → List ℕ → ℕ → Route → Target
-resolved tom s table width (To t) = t
-resolved tom s table width (Registers o) = pick (misfit o width) (Refused 10) (Mapped o)
-resolved tom s table width (Window o) = reached (windowReach (mapOf tom s) (s .fences) (s .regs .control) table o)
+unfoldable pub resolved : Map → List ℕ → ℕ → List ℕ → ℕ → Route → Target
+resolved m fences control table width (To t) = t
+resolved m fences control table width (Registers o) = pick (misfit o width) (Refused 10) (Mapped o)
+resolved m fences control table width (Window o) = reached (windowReach m fences control table o)
+
+-- kinds 3 to 7: the processor's accesses and the hub masters'
+unfoldable pub memoryTarget : Map → List ℕ → ℕ → List ℕ → Record → Target
+memoryTarget m fences control table r =
+    pick (leb (r .kind) 5) (resolved m fences control table (r .width) (routeOf m (isManagement r) (eqb (r .kind) 4) (r .address)))
+    (masterTarget m (r .address))
 
 -- kinds 1 to 7, of a record that keeps the layout: 2, then routing
 unfoldable pub targetOf : ℕ → State → List ℕ → Record → Target
 targetOf tom s table r =
     pick (not (fitsWord (r .width) (r .address))) (Refused 2)
     (pick (leb (r .kind) 2) (portTarget (s .cf8) (smramOf s) (r .width) (r .address))
-    (pick (leb (r .kind) 5) (resolved tom s table (r .width) (routeOf (mapOf tom s) (isManagement r) (eqb (r .kind) 4) (r .address)))
-    (masterTarget (mapOf tom s) (r .address))))
+    (memoryTarget (mapOf tom s) (s .fences) (s .regs .control) table r))
 
 -- ---- what an access does there
 
