@@ -6,3 +6,4 @@ pub mod Locked
 pub mod OneRecord
 pub mod OneRun
 pub mod Theorem
+pub mod Examples

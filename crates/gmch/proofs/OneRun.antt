@@ -37,7 +37,7 @@ record-locked board u tom s table m r l n =
     let wf : wellFormed r ≡ true = not-false _ e in
     pick-elim P _ (λ _. record { upper = l .upper; lock = l .lock }) (λ _.
     pick-elim P _ (λ x. never-reset r n wf x) (λ _.
-    state-kept u s (isWrite (r .kind)) (r .width) (r .value) (targetOf tom s table r) l)))
+    state-kept u s _ _ _ _ l)))
   where
     P : Out → Type 0
     P o = Locked u (o .state)

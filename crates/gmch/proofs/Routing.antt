@@ -5,7 +5,7 @@ use mathlib.Core.List.{List, [], _∷_}
 use mathlib.Core.Bool.{Bool, true, false, not}
 use lib.ListN.{getD}
 use lib.Dec.{ltb, leb, eqb}
-use borrow.Author.Tests.{ltb-true, ltb-false, leb-true, leb-false, eqb-true, not-false}
+use borrow.Author.Tests.{le-ltb, ltb-true, ltb-false, leb-true, leb-false, eqb-true, not-false}
 use native.Mathlib.Omega.{arith}
 use native.Mathlib.Nat.{div-add-mod'}
 use Rattle.gmch.specs.Choice.{pick, _and_, _or_, within}
@@ -14,7 +14,7 @@ use Rattle.gmch.specs.Smram.{lsmm, usmm, gms, tsegSize, takenSize}
 use Rattle.gmch.specs.Config.{smramOf, portTarget}
 use Rattle.gmch.specs.Map.{Tom, mapFrom, mapOf, windowSize, windowBase, registersBase, graphicsOn, usable, tsegStart, lowOpen, lowTarget, topTarget, hsegTarget, hsegHit, routeOf, masterTarget, protectedAt}
 use Rattle.gmch.specs.Fence.{fenceStart, fencePitch, fenceMatches, illFormed, tile, fenceReach, fenced, pitchCode}
-use Rattle.gmch.specs.Table.{pageOf, foreign, entryReach, translate, translated}
+use Rattle.gmch.specs.Table.{pageOf, foreign, entryReach, translate, translated, windowReach}
 use Rattle.gmch.specs.Mapped.{misfit}
 use Rattle.gmch.specs.Ring.{next, fetched, ringStart, headOffset, tailOffset, ringLength}
 use Rattle.gmch.specs.Replay.{reached, resolved, memoryTarget, targetOf}
@@ -88,6 +88,29 @@ pub fenced-aligned : (fs : List ℕ) (o : ℕ) → Aligned o (fenced fs o)
 unfolding fenced
 fenced-aligned [] o = at-aligned o refl
 fenced-aligned (f ∷ fs) o = pick-aligned _ (λ hit. fence-aligned f o hit) (λ _. fenced-aligned fs o)
+
+-- ---- the window, for management mode too
+
+-- whoever asks, what the window reaches is not protected
+pub window-open : (m : Map) (fences : List ℕ) (control : ℕ) (table : List ℕ) (o p : ℕ) → Tom (m .tom) → windowReach m fences control table o ≡ At p
+    → (protectedAt (m .tom) (m .smram) p ≡ false) × (p < m .tom)
+unfolding translated
+window-open m fences control table o p z e = by (fenced fences o) e
+  where
+    at : {x : ℕ} {r : Reach} → Open (m .tom) (m .smram) x r → r ≡ At p → (protectedAt (m .tom) (m .smram) p ≡ false) × (p < m .tom)
+    at denied-open q = let c : _≡_ {A = ℕ} 0 1 = cc in absurd (omega arith)
+    at (at-open p′ k f l) q = let c : p′ ≡ p = cc in rw (← c) (f, l)
+
+    by : (r : Reach) → translated m control table r ≡ At p → (protectedAt (m .tom) (m .smram) p ≡ false) × (p < m .tom)
+    by (At o′) q = at (translate-open m control table o′ z) q
+    by (Denied c) q = let c : _≡_ {A = ℕ} 0 1 = cc in absurd (omega arith)
+
+-- and above TOM, but for HSEG, management mode makes no difference to the route
+pub management-alike : (m : Map) (code : Bool) (a : ℕ) → Tom (m .tom) → m .tom ≤ a → hsegHit (m .smram) a ≡ false → routeOf m true code a ≡ routeOf m false code a
+unfolding routeOf
+management-alike m code a z h e =
+    let g = segment-fits (usmm (m .smram)) in
+    simp (le-ltb a 0xA0000 (omega arith), le-ltb a 0xC0000 (omega arith), le-ltb a 0x100000 (omega arith), le-ltb a (usable m) (omega arith), le-ltb a (m .tom) h, e, choices)
 
 -- ---- targets
 
