@@ -46,6 +46,9 @@ alike-refl : (free : Bool) (x : List ℕ) → Alike free x x
 alike-refl true x = record { lengths = refl; front = refl; back = refl }
 alike-refl false x = refl
 
+alike-equal : (free : Bool) (x y : List ℕ) → x ≡ y → Alike free x y
+alike-equal free x y e = rw (← e) (alike-refl free x)
+
 -- answers that differ in the value alone
 reply-alike : (t : Target) (line v v′ : ℕ) → EqualBut8To11 (answerBytes (reply t v) line) (answerBytes (reply t v′) line)
 unfolding answerBytes bytesOf
@@ -105,7 +108,7 @@ module _ (tom : ℕ) (z : Tom tom) (s : State) (table m m′ : List ℕ) (ag : A
 
       by : (x g : Bool) → management ≡ x → protectedAt tom (smramOf s) p ≡ g → R
       by x false q e =
-          record { states = refl; tables = refl; memories = ag; answers = rw (load-same tom (smramOf s) z m m′ ag p w h e) (alike-refl free _) }
+          record { states = refl; tables = refl; memories = ag; answers = alike-equal free _ _ (ap (λ (v : ℕ). answerBytes (reply (Memory p) v) (lineOf (s .regs))) (load-same tom (smramOf s) z m m′ ag p w h e)) }
       by true true q e =
           record { states = refl; tables = refl; memories = ag; answers = rw (f refl q e) (reply-alike (Memory p) _ (loadLe w p m) (loadLe w p m′)) }
       by false true q e = clash (protectedAt tom (smramOf s) p) e (n q)
