@@ -1,2 +1,4 @@
 pub mod Choice
+pub mod Fence
+pub mod Table
 pub mod Words
