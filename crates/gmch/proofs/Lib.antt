@@ -1,4 +1,6 @@
 pub mod Choice
+pub mod Fence
+pub mod Table
 pub mod Words
 pub mod Ring
 pub mod Steps
