@@ -1,20 +1,20 @@
--- The laws of the ring parser: what a step needs and does, and that a run's count is the number of its completed steps.
-use Prim.Native.Nat.{ℕ, zero, suc, _+_, _-_, _*_, _/_, _%_, _≤_, _<_}
-use mathlib.Core.Path.{_≡_, refl, sym, subst, ap, _∙_}
+-- The laws of the ring parser: why a step ends, is refused or fetches, and what a completed step leaves.
+use Prim.Native.Nat.{ℕ, suc, _+_, _-_, _*_, _/_, _%_, _≤_, _<_}
+use mathlib.Core.Path.{_≡_, refl, sym, subst}
 use mathlib.Core.Logic.{_⊎_, inl, inr, ⊎-elim}
 use mathlib.Core.List.{List}
-use mathlib.Core.Bool.{Bool, true, false}
-use native.Mathlib.Nat.{mod-eq-of-lt, add-mod-right, zero-add}
+use mathlib.Core.Bool.{false}
+use native.Mathlib.Nat.{mod-eq-of-lt, add-mod-right}
 use native.Mathlib.Numerals.{add-one}
 use native.Mathlib.Decide.{decLt}
 use native.Mathlib.Omega.{arith}
-use lib.Dec.{leb, ltb, eqb}
-use borrow.Author.Tests.{leb-true, leb-false, ltb-true, ltb-false, eqb-true, eqb-false}
-use Rattle.gmch.specs.Choice.{pick, _or_}
+use lib.Dec.{leb, eqb}
+use borrow.Author.Tests.{leb-false, ltb-true, ltb-false, eqb-true, eqb-false}
+use Rattle.gmch.specs.Choice.{_or_}
 use Rattle.gmch.specs.Words.{loadLe}
 use Rattle.gmch.specs.Map.{Tom}
-use Rattle.gmch.specs.Table.{translate, entryReach, pageOf, entryAt}
-use Rattle.gmch.specs.Ring.{ringLength, ringStart, tailOffset, headOffset, next, fetched, known, advanced, executed, stepped, stepOn, step, onward, ran, run, wordsLeft}
+use Rattle.gmch.specs.Table.{translate, entryReach}
+use Rattle.gmch.specs.Ring.{ringLength, ringStart, tailOffset, headOffset, next, fetched, advanced, executed, stepped, stepOn, step, onward, ran, run, wordsLeft}
 use Rattle.gmch.specs.declared.Map.{Map}
 use Rattle.gmch.specs.declared.Regs.{Regs}
 use Rattle.gmch.specs.declared.Reach.{Reach}
@@ -24,26 +24,22 @@ use Rattle.gmch.specs.declared.Next.the-variants.{Idle, Stop, Fetch}
 use Rattle.gmch.specs.declared.Step.{Step}
 use Rattle.gmch.specs.declared.Step.the-variants.{Ended, Failed, Done}
 use Rattle.gmch.specs.declared.Ran.{Ran}
-use Rattle.gmch.proofs.Choice.{pick-elim, or-no-left, or-no-right, choices}
+use Rattle.gmch.proofs.Choice.{pick-elim, or-no-left, or-no-right}
+use Rattle.gmch.proofs.Table.{Reached, translate-at, reached-fits}
 
 -- ---- what the parser does next
 
--- what the table makes of the offset o: an address on a page below TOM, or a code, which is not 0
-data Translated (m : Map) (o : ℕ) : Reach → Type 0 where
-  at : (entry : ℕ) → pageOf entry < m .tom → Translated m o (At (pageOf entry + o % 4096))
-  denied : (c : ℕ) → 0 < c → Translated m o (Denied c)
+-- a refusal's code is not 0
+data Coded : Reach → Type 0 where
+  at : (a : ℕ) → Coded (At a)
+  denied : (c : ℕ) → 0 < c → Coded (Denied c)
 
-translates : (m : Map) (control : ℕ) (table : List ℕ) (o : ℕ) → Translated m o (translate m control table o)
+coded : (m : Map) (control : ℕ) (table : List ℕ) (o : ℕ) → Coded (translate m control table o)
 unfolding translate entryReach
-translates m control table o =
-    pick-elim P _ (λ _. denied 3 (omega arith))
-    (λ _. pick-elim P _ (λ _. denied 4 (omega arith))
-    (λ _. pick-elim P _ (λ _. denied 5 (omega arith))
-    (λ _. pick-elim P _ (λ _. denied 7 (omega arith))
-    (λ below. pick-elim P _ (λ _. denied 6 (omega arith)) (λ _. at (entryAt table o) (leb-false _ _ below))))))
-  where
-    P : Reach → Type 0
-    P x = Translated m o x
+coded m control table o =
+    pick-elim Coded _ (λ _. denied 3 (omega arith)) (λ _. pick-elim Coded _ (λ _. denied 4 (omega arith))
+    (λ _. pick-elim Coded _ (λ _. denied 5 (omega arith)) (λ _. pick-elim Coded _ (λ _. denied 7 (omega arith))
+    (λ _. pick-elim Coded _ (λ _. denied 6 (omega arith)) (λ _. at _)))))
 
 -- the ring is enabled, with head and tail in range
 pub record Ready (r : Regs) : Type 0 where
@@ -68,7 +64,7 @@ because m table r =
     pick-elim P _ (λ e. empty ready (eqb-true _ _ e))
     (λ some. pick-elim P _ (λ _. refused 8 (omega arith))
     (λ inside. go ready (eqb-false _ _ some) (leb-false _ _ inside) refl
-    (translates m (r .control) table (ringStart r + headOffset r))))))
+    (coded m (r .control) table (ringStart r + headOffset r))))))
   where
     P : Next → Type 0
     P n = Why m table r n
@@ -79,22 +75,22 @@ because m table r =
         record { enabled = omega arith; head = leb-false _ _ (or-no-left _ _ in-range); tail = leb-false _ _ (or-no-right _ _ in-range) }
 
     go : Ready r → (headOffset r ≡ tailOffset r → ⊥) → ringStart r + headOffset r < m .window → {x : Reach}
-        → translate m (r .control) table (ringStart r + headOffset r) ≡ x → Translated m (ringStart r + headOffset r) x → Why m table r (fetched x)
-    go ready some inside e (at entry _) = fetch _ ready some inside e
+        → translate m (r .control) table (ringStart r + headOffset r) ≡ x → Coded x → Why m table r (fetched x)
+    go ready some inside e (at a) = fetch a ready some inside e
     go ready some inside e (denied c z) = refused c z
 
 pub why : (m : Map) (table : List ℕ) (r : Regs) {n : Next} → next m table r ≡ n → Why m table r n
 why m table r e = subst (λ (n : Next). Why m table r n) e (because m table r)
 
--- a fetch is of a whole word inside memory
-pub fetch-fits : (m : Map) (table : List ℕ) (r : Regs) (a : ℕ) → Tom (m .tom) → next m table r ≡ Fetch a → (a % 4 ≡ 0) × (a + 4 ≤ m .tom)
-fetch-fits m table r a tom e = by (why m table r e)
+-- a fetch is of an aligned word inside memory, on a page that is not protected
+pub fetch-reached : (m : Map) (table : List ℕ) (r : Regs) (a : ℕ) → next m table r ≡ Fetch a → Reached m a × (a % 4 ≡ 0)
+fetch-reached m table r a e = by (why m table r e)
   where
-    fits : {b : ℕ} → Translated m (ringStart r + headOffset r) (At b) → (b % 4 ≡ 0) × (b + 4 ≤ m .tom)
-    fits (at entry below) = omega arith
+    by : Why m table r (Fetch a) → Reached m a × (a % 4 ≡ 0)
+    by (fetch b ready some inside t) = let q = translate-at m a (r .control) table (ringStart r + headOffset r) t in (q .0, omega arith)
 
-    by : Why m table r (Fetch a) → (a % 4 ≡ 0) × (a + 4 ≤ m .tom)
-    by (fetch b ready some inside t) = fits (subst (λ (x : Reach). Translated m (ringStart r + headOffset r) x) t (translates m (r .control) table (ringStart r + headOffset r)))
+pub fetch-fits : (m : Map) (table : List ℕ) (r : Regs) (a : ℕ) → Tom (m .tom) → next m table r ≡ Fetch a → a + 4 ≤ m .tom
+fetch-fits m table r a tom e = let q = fetch-reached m table r a e in reached-fits m a tom (q .0) 4 (omega arith)
 
 -- ---- a step
 
