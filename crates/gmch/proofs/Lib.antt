@@ -1,5 +1,9 @@
 pub mod Choice
 pub mod Words
+pub mod Fence
+pub mod Table
+pub mod Ring
+pub mod Steps
 pub mod Protect
 pub mod Routing
 pub mod Locked
