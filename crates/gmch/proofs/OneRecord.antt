@@ -118,7 +118,7 @@ module _ (tom : ℕ) (z : Tom tom) (s : State) (table m m′ : List ℕ) (ag : A
       → Related tom (smramOf s) free (access s table m write w v t) (access s table m′ write w v t)
   unfolding access memoryAfter valueAt inProtected
   access-related free management write w v refused-safe f = unchanged free _ _ _
-  access-related free management write w v (memory-safe p h n) f = memory-related free management write w v p h n f
+  access-related free management write w v (memory-safe p l h n) f = memory-related free management write w v p h n f
   access-related free management write w v register-safe f = unchanged free _ _ _
   access-related free management write w v hub-safe f = unchanged free _ _ _
   access-related free management write w v error-safe f = unchanged free _ _ _
@@ -130,7 +130,7 @@ module _ (tom : ℕ) (z : Tom tom) (s : State) (table m m′ : List ℕ) (ag : A
       → Related tom (smramOf s) free (access s table m true w v t) (access s table m′ true w v′ t)
   unfolding access memoryAfter stateAfter tableAfter inProtected pick answered
   hidden-related free management w v v′ refused-safe e = absurd (false≢true e)
-  hidden-related free management w v v′ (memory-safe p h n) e =
+  hidden-related free management w v v′ (memory-safe p l h n) e =
       record { states = refl; tables = refl; memories = store-hidden tom (smramOf s) z m m′ ag p w v v′ h e; answers = alike-refl free _ }
   hidden-related free management w v v′ register-safe e = absurd (false≢true e)
   hidden-related free management w v v′ hub-safe e = absurd (false≢true e)

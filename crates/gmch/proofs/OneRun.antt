@@ -70,7 +70,7 @@ memory-kept : (tom b : ℕ) → Tom tom → (m : List ℕ) (management write : B
     → getD (memoryAfter m write w v t) a 0 ≡ getD m a 0
 unfolding memoryAfter inProtected landsOn
 memory-kept tom b z m management write w v a refused-safe g f = refl
-memory-kept tom b z m management write w v a (memory-safe p h n) g f =
+memory-kept tom b z m management write w v a (memory-safe p l h n) g f =
     pick-elim (λ (l : List ℕ). getD l a 0 ≡ getD m a 0) write (λ y. by y management (protectedAt tom b p) refl refl) (λ _. refl)
   where
     by : write ≡ true → (x q : Bool) → management ≡ x → protectedAt tom b p ≡ q → getD (storeLe w p v m) a 0 ≡ getD m a 0

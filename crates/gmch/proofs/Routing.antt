@@ -30,7 +30,7 @@ use Rattle.gmch.specs.declared.Route.{Route}
 use Rattle.gmch.specs.declared.Route.the-variants.{To, Registers, Window}
 use Rattle.gmch.specs.declared.Next.{Next}
 use Rattle.gmch.specs.declared.Next.the-variants.{Idle, Stop, Fetch}
-use Rattle.gmch.proofs.Choice.{choices, pick-elim, clash, and-left, and-right, within-from}
+use Rattle.gmch.proofs.Choice.{choices, pick-elim, clash, and-left, and-right, within-from, within-to}
 use Rattle.gmch.proofs.Protect.{segment-fits, protected-page, free-low, free-open, free-high}
 
 -- ---- translation
@@ -114,10 +114,10 @@ management-alike m code a z h e =
 
 -- ---- targets
 
--- an access of w bytes in memory stays in an aligned word, and without management mode is unprotected
+-- an access of w bytes in memory is below TOM, stays in an aligned word, and without management mode is unprotected
 pub data Safe (tom b : ℕ) (management : Bool) (w : ℕ) : Target → Type 0 where
   refused-safe : {c : ℕ} → Safe tom b management w (Refused c)
-  memory-safe : (p : ℕ) → p % 4 + w ≤ 4 → (management ≡ false → protectedAt tom b p ≡ false) → Safe tom b management w (Memory p)
+  memory-safe : (p : ℕ) → p < tom → p % 4 + w ≤ 4 → (management ≡ false → protectedAt tom b p ≡ false) → Safe tom b management w (Memory p)
   register-safe : {x : ℕ} → Safe tom b management w (Register x)
   hub-safe : {a : ℕ} → Safe tom b management w (Hub a)
   error-safe : {a : ℕ} → Safe tom b management w (HubError a)
@@ -134,7 +134,7 @@ pick-safe false f g = g refl
 
 reach-safe : {tom b : ℕ} (x : ℕ) {r : Reach} (management : Bool) (w : ℕ) → x % 4 + w ≤ 4 → Open tom b (x % 4096) r → Safe tom b management w (reached r)
 reach-safe x management w h denied-open = refused-safe
-reach-safe x management w h (at-open p k f l) = memory-safe p (omega arith) (λ _. f)
+reach-safe x management w h (at-open p k f l) = memory-safe p l (omega arith) (λ _. f)
 
 window-safe : (m : Map) (control : ℕ) (table : List ℕ) (management : Bool) (w : ℕ) {x : ℕ} {r : Reach} → Tom (m .tom) → x % 4 + w ≤ 4 → Aligned x r
     → Safe (m .tom) (m .smram) management w (reached (translated m control table r))
@@ -165,19 +165,19 @@ plain-open l code e = eqb-true l 1 (simp choices at e)
 module _ (m : Map) (z : Tom (m .tom)) (w a : ℕ) (h : a % 4 + w ≤ 4) where
   -- rule 1
   low-safe : (management : Bool) → a < 0xA0000 → Safe (m .tom) (m .smram) management w (Memory a)
-  low-safe management l = memory-safe a h (λ _. free-low (m .tom) (m .smram) a z l)
+  low-safe management l = memory-safe a (omega arith) h (λ _. free-low (m .tom) (m .smram) a z l)
 
   -- rule 2, for the processor and for hub masters
   open-safe : (management : Bool) → (management ≡ false → lsmm (m .smram) ≡ 1) → a < 0xC0000 → Safe (m .tom) (m .smram) management w (Memory a)
-  open-safe management f l = memory-safe a h (λ n. free-open (m .tom) (m .smram) a z (f n) l)
+  open-safe management f l = memory-safe a (omega arith) h (λ n. free-open (m .tom) (m .smram) a z (f n) l)
 
   -- rule 4
   high-safe : (management : Bool) → 0x100000 ≤ a → a < usable m → Safe (m .tom) (m .smram) management w (Memory a)
-  high-safe management l u = memory-safe a h (λ _. free-high (m .tom) (m .smram) a l (omega arith))
+  high-safe management l u = memory-safe a (omega arith) h (λ _. free-high (m .tom) (m .smram) a l (omega arith))
 
   -- for management mode alone
-  managed-safe : (management : Bool) → management ≡ true → (p : ℕ) → p % 4 ≡ a % 4 → Safe (m .tom) (m .smram) management w (Memory p)
-  managed-safe management y p e = memory-safe p (omega arith) (λ n. clash management y n)
+  managed-safe : (management : Bool) → management ≡ true → (p : ℕ) → p < m .tom → p % 4 ≡ a % 4 → Safe (m .tom) (m .smram) management w (Memory p)
+  managed-safe management y p l e = memory-safe p l (omega arith) (λ n. clash management y n)
 
   pub route-safe : (management code : Bool) → m .gmadr % 4 ≡ 0 → SafeRoute (m .tom) (m .smram) management w (routeOf m management code a)
   unfolding routeOf lowTarget topTarget hsegTarget hsegHit
@@ -188,11 +188,12 @@ module _ (m : Map) (z : Tom (m .tom)) (w a : ℕ) (h : a % 4 + w ≤ 4) where
       (λ _. pick-safe _ (λ _. hub-safe) (λ _. vga-safe)))) (λ _.
       pick-route _ (λ _. to-safe hub-safe) (λ l.
       pick-route _ (λ e. to-safe (high-safe management (ltb-false _ _ l) (ltb-true _ _ e))) (λ _.
-      pick-route _ (λ _. to-safe (pick-safe _ (λ _. hub-safe) (λ _.
-      pick-safe _ (λ y. managed-safe management y a refl) (λ _. error-safe)))) (λ _.
+      pick-route _ (λ e. to-safe (pick-safe _ (λ _. hub-safe) (λ _.
+      pick-safe _ (λ y. managed-safe management y a (ltb-true _ _ e) refl) (λ _. error-safe)))) (λ _.
       pick-route _ (λ e.
       let q : 0xFEEA0000 ≤ a = within-from _ _ _ (and-right _ _ e) in
-      to-safe (pick-safe _ (λ y. managed-safe management y (a - 0xFEEA0000 + 0xA0000) (omega arith)) (λ _. error-safe))) (λ _.
+      let u : a < 0xFEEC0000 = within-to 0xFEEA0000 0x20000 a (and-right _ _ e) in
+      to-safe (pick-safe _ (λ y. managed-safe management y (a - 0xFEEA0000 + 0xA0000) (omega arith) (omega arith)) (λ _. error-safe))) (λ _.
       pick-route _ (λ _. registers-safe) (λ _.
       pick-route _ (λ e.
       let q : m .gmadr ≤ a = within-from _ _ _ (and-right _ _ e) in
