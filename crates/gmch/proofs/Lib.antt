@@ -1,5 +1,6 @@
 pub mod Choice
 pub mod Words
+pub mod Rules
 pub mod Fence
 pub mod Table
 pub mod Ring
