@@ -1,0 +1,76 @@
+-- A decision and its effect are one record of the definitions.
+use Prim.Native.Nat.{ℕ, zero, suc, _+_, _-_, _*_, _/_, _%_, _≤_, _<_}
+use mathlib.Core.Path.{_≡_, refl, sym, ap, _∙_}
+use mathlib.Core.List.{List, [], _∷_, _++_}
+use mathlib.Core.Bool.{Bool, true, false, not}
+use native.Mathlib.Omega.{arith}
+use lib.ListN.{set, length}
+use lib.Dec.{eqb, ltb, leb}
+use borrow.Author.Tests.{ne-eqb, le-ltb}
+use Rattle.gmch.specs.Choice.{pick, _and_, within}
+use Rattle.gmch.specs.Records.{isWrite, wellFormed, reply}
+use Rattle.gmch.specs.Config.{registerWritten, withRegs}
+use Rattle.gmch.specs.Map.{mapOf}
+use Rattle.gmch.specs.Mapped.{isEntry, isFence, mappedWritten, regsWritten}
+use Rattle.gmch.specs.Replay.{targetOf, stateAfter, tableAfter, memoryAfter, Out, out, access, parsed, reset, coldStart, oneRecord}
+use Rattle.gmch.specs.declared.State.{State}
+use Rattle.gmch.specs.declared.Regs.{Regs}
+use Rattle.gmch.specs.declared.Record.{Record}
+use Rattle.gmch.specs.declared.Target.{Target}
+use Rattle.gmch.specs.declared.Target.the-variants.{Refused, Memory, Register, Hub, HubError, Vga, Mapped}
+use Rattle.gmch.proofs.Choice.{choices, pick-elim, pick-elim₂, clash, within-from, within-to}
+use Rattle.replay.specs.Decide.{effectAt, applied, decided, acted, decide, tableBy, memoryBy}
+use Rattle.replay.specs.declared.Effect.{Effect}
+use Rattle.replay.specs.declared.Effect.the-variants.{Keep, Ring, Configure, Store, Error, Reset}
+
+-- a write of a table entry leaves the other registers
+entry-keeps : (s : State) (o v : ℕ) → isEntry o ≡ true → mappedWritten s o v ≡ s
+unfolding mappedWritten isEntry isFence regsWritten within
+entry-keeps s o v e =
+    let l : 0x10000 ≤ o = within-from 0x10000 0x10000 o e in
+    let other : (k : ℕ) → k < 0x10000 → eqb o k ≡ false = λ k h. ne-eqb o k (λ q. omega arith) in
+    simp (
+      le-ltb o 0x2020 (omega arith),
+      other 0x2020 (omega arith),
+      other 0x2030 (omega arith),
+      other 0x2034 (omega arith),
+      other 0x2038 (omega arith),
+      other 0x203C (omega arith),
+      other 0x20A0 (omega arith),
+      other 0x20A4 (omega arith),
+      other 0x20A8 (omega arith),
+      choices,
+    )
+
+applied-access : (board : ℕ) (s : State) (write : Bool) (width v : ℕ) (t : Target) → applied board s (effectAt write width v t) ≡ stateAfter s write width v t
+unfolding applied effectAt stateAfter
+applied-access board s write width v (Refused c) = refl
+applied-access board s write width v (Memory a) = refl
+applied-access board s true width v (Register x) = simp choices
+applied-access board s false width v (Register x) = simp choices
+applied-access board s write width v (Hub a) = refl
+applied-access board s write width v (HubError a) = refl
+applied-access board s write width v (Vga o) = refl
+applied-access board s false width v (Mapped o) = simp choices
+applied-access board s true width v (Mapped o) = by (isEntry o) refl
+  where
+    by : (x : Bool) → isEntry o ≡ x → applied board s (pick (true and not (isEntry o)) (Store o v) Keep) ≡ pick true (mappedWritten s o v) s
+    by true e = simp (e, choices) (sym (entry-keeps s o v e))
+    by false e = simp (e, choices)
+
+-- the whole record
+module _ (board tom : ℕ) (s : State) (table memory : List ℕ) (r : Record) where
+  pub decide-is : out (applied board s (decide tom s table memory r .effect)) (tableBy tom s table r) (memoryBy tom s table memory r) (decide tom s table memory r .answer)
+      ≡ oneRecord board tom s table memory r
+  unfolding decide tableBy memoryBy oneRecord acted access parsed reset applied
+  decide-is = by (not (wellFormed r)) (eqb (r .kind) 8) (eqb (r .kind) 9) refl refl refl
+    where
+      G : Type 0
+      G = out (applied board s (decide tom s table memory r .effect)) (tableBy tom s table r) (memoryBy tom s table memory r) (decide tom s table memory r .answer)
+          ≡ oneRecord board tom s table memory r
+
+      by : (x y z : Bool) → not (wellFormed r) ≡ x → eqb (r .kind) 8 ≡ y → eqb (r .kind) 9 ≡ z → G
+      by true y z p q w = simp (p, choices)
+      by false true z p q w = simp (p, q, choices)
+      by false false true p q w = simp (p, q, w, choices)
+      by false false false p q w = simp (p, q, w, choices, applied-access)
