@@ -2,3 +2,4 @@ pub mod Choice
 pub mod Fence
 pub mod Table
 pub mod Words
+pub mod Rules
