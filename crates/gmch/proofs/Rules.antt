@@ -15,6 +15,10 @@ use Rattle.gmch.specs.declared.Route.{Route}
 use Rattle.gmch.specs.declared.Route.the-variants.{To, Registers, Window}
 use Rattle.gmch.proofs.Choice.{choices, flag, pick-elim, and-right, within-from, within-to}
 
+-- what a call found to be within a range
+pub in-range : (base n a : ℕ) {r : Bool} → r ≡ within base n a → r ≡ true → (base ≤ a) × (a < base + n)
+in-range base n a e h = (within-from base n a (flag e h), within-to base n a (flag e h))
+
 -- a segment is at most 1 MiB
 pub segment-most : (code : ℕ) → segment code ≤ 0x100000
 unfolding segment

@@ -4,7 +4,7 @@ use gmch::State;
 use map::within;
 ghost use mathlib.Core.Path.{_≡_};
 ghost use lib.ListN.{length};
-ghost use Rattle.gmch.specs.Mapped.{listedWord, listedHalf, misfit, isEntry, isFence, regsValue, mappedValue, regsWritten, mappedWritten, tableWritten, lineOf};
+ghost use Rattle.gmch.specs.Mapped.{listedWord, listedHalf, misfit, regsValue, mappedValue, regsWritten, mappedWritten, tableWritten, lineOf};
 
 // ---- the list
 
@@ -35,20 +35,6 @@ pub fn misfit(o: u32, width: u32) -> bool
     false
 }
 
-// `o` is in the translation table.
-fn is_entry(o: u32) -> bool
-    ensures { λ r. ⌜ r ≡ isEntry o ⌝ }
-{
-    within(0x10000, 0x10000, o)
-}
-
-// `o` is in a fence.
-fn is_fence(o: u32) -> bool
-    ensures { λ r. ⌜ r ≡ isFence o ⌝ }
-{
-    within(0x2000, 0x20, o)
-}
-
 // ---- reads
 
 // What a register that is a single number reads at `o`.
@@ -73,11 +59,11 @@ pub fn value(fences: [u32; 8], r: Regs, table: &[u32], o: u32) -> u32
     requires { ⌜ length (now table) ≡ 16384 ⌝ }
     ensures { λ v. ⌜ v ≡ mappedValue fences r (now (table .entry)) o ⌝ }
 {
-    if is_entry(o) {
+    if within(0x10000, 0x10000, o) {
         let i = ((o - 0x10000) / 4) as usize;
         return table[i];
     }
-    if is_fence(o) {
+    if within(0x2000, 0x20, o) {
         let i = ((o - 0x2000) / 4) as usize;
         return fences[i];
     }
@@ -135,7 +121,7 @@ pub fn written(s: State, o: u32, v: u32) -> State
     ensures { λ t. ⌜ t ≡ mappedWritten s o v ⌝ }
 {
     let mut t = s;
-    if is_fence(o) {
+    if within(0x2000, 0x20, o) {
         let i = ((o - 0x2000) / 4) as usize;
         t.fences[i] = v & 0x3F81771;
         return t;
@@ -151,7 +137,7 @@ pub fn table_written(table: &mut [u32], o: u32, v: u32)
     requires { ⌜ length (now table) ≡ 16384 ⌝ }
     ensures { λ _. ⌜ now (table .exit) ≡ tableWritten (now (table .entry)) o v ⌝ }
 {
-    if is_entry(o) {
+    if within(0x10000, 0x10000, o) {
         let i = ((o - 0x10000) / 4) as usize;
         table[i] = v & 0x3FFFF007;
     }

@@ -1,15 +1,11 @@
+use Rattle.gmch.proofs.Choice.{tests}
+use Rattle.gmch.specs.Mapped.{lineOf}
 use Rattle.mapped.proofs.line.Statement.{statement}
 use Rattle.mapped.proofs.line.Tie as tie
-use Rattle.mapped.proofs.line.Reads as reads
-use Rattle.mapped.proofs.line.Lts as lts
-
--- src/lib.rt:167:9
-returns : tie.Need-returns
-returns c = ?
-
--- src/lib.rt:163:1
-returns-2 : tie.Need-returns-2
-returns-2 c = ?
 
 pub line-spec : {M : Type 1} → statement M
-line-spec = tie.close (tie.spec returns returns-2)
+line-spec =
+    tie.close
+    (tie.spec
+    (λ c. unfold lineOf in search tests)
+    (λ c. unfold lineOf in search tests))

@@ -1,54 +1,19 @@
+use Rattle.gmch.proofs.Choice.{tests}
+use Rattle.gmch.specs.Choice.{pick}
+use Rattle.gmch.specs.Mapped.{regsValue}
 use Rattle.mapped.proofs.regs_value.Statement.{statement}
 use Rattle.mapped.proofs.regs_value.Tie as tie
-use Rattle.mapped.proofs.regs_value.Reads as reads
-use Rattle.mapped.proofs.regs_value.Lts as lts
-
--- src/lib.rt:55:1
-returns : tie.Need-returns
-returns c = ?
-
--- src/lib.rt:55:1
-returns-2 : tie.Need-returns-2
-returns-2 c = ?
-
--- src/lib.rt:55:1
-returns-3 : tie.Need-returns-3
-returns-3 c = ?
-
--- src/lib.rt:55:1
-returns-4 : tie.Need-returns-4
-returns-4 c = ?
-
--- src/lib.rt:55:1
-returns-5 : tie.Need-returns-5
-returns-5 c = ?
-
--- src/lib.rt:55:1
-returns-6 : tie.Need-returns-6
-returns-6 c = ?
-
--- src/lib.rt:55:1
-returns-7 : tie.Need-returns-7
-returns-7 c = ?
-
--- src/lib.rt:55:1
-returns-8 : tie.Need-returns-8
-returns-8 c = ?
-
--- src/lib.rt:55:1
-returns-9 : tie.Need-returns-9
-returns-9 c = ?
 
 pub regs-value-spec : {M : Type 1} → statement M
 regs-value-spec =
     tie.close
     (tie.spec
-    returns
-    returns-2
-    returns-3
-    returns-4
-    returns-5
-    returns-6
-    returns-7
-    returns-8
-    returns-9)
+    (λ c. unfold regsValue pick in rw (c .match .keys1))
+    (λ c. unfold regsValue pick in rw (c .match .keys2))
+    (λ c. unfold regsValue pick in rw (c .match .keys3))
+    (λ c. unfold regsValue pick in rw (c .match .keys4))
+    (λ c. unfold regsValue pick in rw (c .match .keys5))
+    (λ c. unfold regsValue pick in rw (c .match .keys6))
+    (λ c. unfold regsValue pick in rw (c .match .keys7))
+    (λ c. unfold regsValue pick in rw (c .match .keys8))
+    (λ c. unfold regsValue in search tests))
