@@ -3,6 +3,7 @@ use gmch::Regs;
 use gmch::State;
 use gmch::Target;
 ghost use mathlib.Core.Path.{_≡_};
+ghost use mathlib.Core.Logic.{_⊎_};
 ghost use Prim.Native.Nat.{ℕ, _+_, _%_, _<_, _≤_};
 ghost use Rattle.gmch.specs.Smram.{smramWritten};
 ghost use Rattle.gmch.specs.Config.{byteAt, fixedAt, merge, newByte, touches, configWrite, readByte, configRead, registerValue, registerWritten, present, ours, portTarget};
@@ -197,4 +198,28 @@ fn config_read(s: State, x: u32, n: u32) -> u32
         v = read_byte(s, x + i) as u32 + 256 * v;
     }
     v
+}
+
+// What an access at x reads: CF8h or configuration registers.
+pub fn register_value(s: State, x: u32, width: u32) -> u32
+    requires { ⌜ ((x ≡ 0xCF8) ⊎ (x < 512)) × (x % 4 + width ≤ 4) ⌝ }
+    ensures { λ r. ⌜ r ≡ registerValue s x width ⌝ }
+{
+    if x == 0xCF8 {
+        return s.cf8;
+    }
+    config_read(s, x, width)
+}
+
+// The state after a write at x: to CF8h or to configuration registers.
+pub fn register_written(s: State, x: u32, width: u32, v: u32) -> State
+    requires { ⌜ ((x ≡ 0xCF8) ⊎ (x < 512)) × (x % 4 + width ≤ 4) ⌝ }
+    ensures { λ r. ⌜ r ≡ registerWritten s x width v ⌝ }
+{
+    if x == 0xCF8 {
+        let mut t = s;
+        t.cf8 = v & 0x80FFFFFC;
+        return t;
+    }
+    config_write(s, x, width, v)
 }
