@@ -1,0 +1,4 @@
+pub mod Both
+pub mod Bytes
+pub mod Filled
+pub mod Scan

@@ -1,0 +1,14 @@
+use borrow.Author.Needs.{needs}
+use Rattle.gmch.proofs.Choice.{tests}
+use Rattle.gmch.specs.Config.{touches}
+use Rattle.config.proofs.is_touched.Statement.{statement}
+use Rattle.config.proofs.is_touched.Tie as tie
+
+pub is-touched-spec : {M : Type 1} → statement M
+is-touched-spec =
+    tie.close
+    (tie.spec
+    (λ c. search needs)
+    (λ c. search needs)
+    (λ c. unfold touches in search tests)
+    (λ c. unfold touches in search tests))

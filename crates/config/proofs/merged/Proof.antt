@@ -1,0 +1,10 @@
+use mathlib.Core.Path.{refl}
+use Rattle.gmch.specs.Config.{merge}
+use Rattle.config.proofs.merged.Statement.{statement}
+use Rattle.config.proofs.merged.Tie as tie
+
+pub merged-spec : {M : Type 1} → statement M
+merged-spec =
+    tie.close
+    (tie.spec
+    (λ c. unfold merge in refl))

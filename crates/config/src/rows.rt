@@ -1,0 +1,277 @@
+// The register rows of document 01, and what they say of a byte.
+use gmch::Masks;
+use gmch::Row;
+ghost use mathlib.Core.Path.{_≡_};
+ghost use Prim.Native.Nat.{ℕ, _*_, _<_};
+ghost use Rattle.gmch.specs.Choice.{within};
+ghost use Rattle.gmch.specs.Rows.{rows, rowIn, byteOf, masksOf, defaultsFrom, idByte, coldBytes};
+
+const ROWS: [Row; 24] = [
+    // device 0
+    Row {
+        at: 0x000,
+        width: 2,
+        default: 0x8086,
+        writable: 0,
+        clearing: 0,
+    },
+    // 7122h on a DC100
+    Row {
+        at: 0x002,
+        width: 2,
+        default: 0x7120,
+        writable: 0,
+        clearing: 0,
+    },
+    Row {
+        at: 0x004,
+        width: 2,
+        default: 0x0006,
+        writable: 0x0100,
+        clearing: 0,
+    },
+    Row {
+        at: 0x006,
+        width: 2,
+        default: 0x0080,
+        writable: 0,
+        clearing: 0x7000,
+    },
+    Row {
+        at: 0x008,
+        width: 1,
+        default: 0x02,
+        writable: 0,
+        clearing: 0,
+    },
+    Row {
+        at: 0x00B,
+        width: 1,
+        default: 0x06,
+        writable: 0,
+        clearing: 0,
+    },
+    // SMRAM: what a write leaves has a rule of its own, smramWritten
+    Row {
+        at: 0x070,
+        width: 1,
+        default: 0x00,
+        writable: 0,
+        clearing: 0,
+    },
+    // MISCC
+    Row {
+        at: 0x072,
+        width: 2,
+        default: 0x0000,
+        writable: 0x0001,
+        clearing: 0,
+    },
+    Row {
+        at: 0x080,
+        width: 1,
+        default: 0x00,
+        writable: 0xFF,
+        clearing: 0,
+    },
+    Row {
+        at: 0x092,
+        width: 2,
+        default: 0xFFFF,
+        writable: 0xFFFF,
+        clearing: 0,
+    },
+    // device 1
+    Row {
+        at: 0x100,
+        width: 2,
+        default: 0x8086,
+        writable: 0,
+        clearing: 0,
+    },
+    // 7123h on a DC100
+    Row {
+        at: 0x102,
+        width: 2,
+        default: 0x7121,
+        writable: 0,
+        clearing: 0,
+    },
+    Row {
+        at: 0x104,
+        width: 2,
+        default: 0x0004,
+        writable: 0x0003,
+        clearing: 0,
+    },
+    Row {
+        at: 0x10B,
+        width: 1,
+        default: 0x03,
+        writable: 0,
+        clearing: 0,
+    },
+    // GMADR
+    Row {
+        at: 0x110,
+        width: 4,
+        default: 0x00000008,
+        writable: 0xFE000000,
+        clearing: 0,
+    },
+    // MMADR
+    Row {
+        at: 0x114,
+        width: 4,
+        default: 0x00000000,
+        writable: 0xFFF80000,
+        clearing: 0,
+    },
+    // SVID and SID, write once
+    Row {
+        at: 0x12C,
+        width: 2,
+        default: 0x0000,
+        writable: 0xFFFF,
+        clearing: 0,
+    },
+    Row {
+        at: 0x12E,
+        width: 2,
+        default: 0x0000,
+        writable: 0xFFFF,
+        clearing: 0,
+    },
+    Row {
+        at: 0x134,
+        width: 1,
+        default: 0xDC,
+        writable: 0,
+        clearing: 0,
+    },
+    Row {
+        at: 0x13C,
+        width: 1,
+        default: 0x00,
+        writable: 0xFF,
+        clearing: 0,
+    },
+    Row {
+        at: 0x13D,
+        width: 1,
+        default: 0x01,
+        writable: 0,
+        clearing: 0,
+    },
+    Row {
+        at: 0x1DC,
+        width: 2,
+        default: 0x0001,
+        writable: 0,
+        clearing: 0,
+    },
+    Row {
+        at: 0x1DE,
+        width: 2,
+        default: 0x0021,
+        writable: 0,
+        clearing: 0,
+    },
+    // PM_CS
+    Row {
+        at: 0x1E0,
+        width: 2,
+        default: 0x0000,
+        writable: 0x0103,
+        clearing: 0,
+    },
+];
+
+// Whether the register of a row has the byte x.
+fn covers(r: Row, x: u32) -> bool
+    ensures { λ b. ⌜ b ≡ within (r .at) (r .width) x ⌝ }
+{
+    if r.at <= x {
+        return x - r.at < r.width;
+    }
+    false
+}
+
+// The row whose register has the byte x, and a row of zeros for an unlisted one.
+fn row_of(x: u32) -> Row
+    ensures { λ r. ⌜ r ≡ rowIn rows x ⌝ }
+{
+    let table = ROWS;
+    let mut i: usize = 0;
+    while i < 24 {
+        let r = table[i];
+        if covers(r, x) {
+            return r;
+        }
+        i = i + 1;
+    }
+    Row {
+        at: x,
+        width: 1,
+        default: 0,
+        writable: 0,
+        clearing: 0,
+    }
+}
+
+// Byte k of a number, from the lowest.
+fn byte_of(n: u32, k: u32) -> u32
+    requires { ⌜ k < 4 ⌝ }
+    ensures { λ r. ⌜ r ≡ byteOf n k ⌝ }
+{
+    (n >> (8 * k)) % 256
+}
+
+// What the rows say of the byte x.
+pub fn masks_of(x: u32) -> Masks
+    ensures { λ r. ⌜ r ≡ masksOf x ⌝ }
+{
+    let r = row_of(x);
+    let k = x - r.at;
+    Masks {
+        default: byte_of(r.default, k),
+        writable: byte_of(r.writable, k),
+        clearing: byte_of(r.clearing, k),
+    }
+}
+
+// The defaults of a device's 256 bytes.
+fn default_bytes(device: u32) -> [u8; 256]
+    requires { ⌜ device < 2 ⌝ }
+    ensures { λ r. ⌜ r ≡ defaultsFrom (device * 256) 256 ⌝ }
+{
+    let mut a = [0u8; 256];
+    let mut i: u32 = 0;
+    while i < 256 {
+        let m = masks_of(device * 256 + i);
+        a[i as usize] = m.default as u8;
+        i = i + 1;
+    }
+    a
+}
+
+// The low byte of the device identification: 7120h and 7121h on board kind 0, 7122h and 7123h on a DC100.
+fn id_byte(board: u32, device: u32) -> u8
+    requires { ⌜ device < 2 ⌝ }
+    ensures { λ r. ⌜ r ≡ idByte board device ⌝ }
+{
+    if board == 0 {
+        return (0x20 + device) as u8;
+    }
+    (0x20 + device + 2) as u8
+}
+
+// A device's 256 bytes at a cold start.
+pub fn cold_bytes(board: u32, device: u32) -> [u8; 256]
+    requires { ⌜ device < 2 ⌝ }
+    ensures { λ r. ⌜ r ≡ coldBytes board device ⌝ }
+{
+    let mut a = default_bytes(device);
+    a[2] = id_byte(board, device);
+    a
+}
