@@ -38,12 +38,13 @@ isManagement r = isProcessor (r .kind) and eqb (r .flags % 2) 1
 -- each kind's flags, reserved bytes, data, width and address are as the layout says
 unfoldable pub wellFormed : Record → Bool
 wellFormed r =
-    (leb 1 (r .kind) and leb (r .kind) 9)
-    and leb (r .flags) (pick (isProcessor (r .kind)) 1 0)
+    leb 1 (r .kind)
+    and leb (r .kind) 9
+    and (eqb (r .flags) 0 or isProcessor (r .kind) and eqb (r .flags) 1)
     and eqb (r .zero) 0
     and eqb (r .rest) 0
     and (takesData (r .kind) or eqb (r .value) 0)
-    and (leb (r .kind) 7 or (eqb (r .width) 0 and eqb (r .address) 0))
+    and (leb (r .kind) 7 or eqb (r .width) 0 and eqb (r .address) 0)
     and (leb 3 (r .kind) or leb (r .address) 65535)
 
 -- ---- code 2

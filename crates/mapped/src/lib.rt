@@ -146,7 +146,7 @@ pub fn table_written(table: &mut [u32], o: u32, v: u32)
 // ---- interrupts
 
 // The interrupt line.
-pub fn line(r: Regs) -> u32
+pub fn line(r: Regs) -> u8
     ensures { λ l. ⌜ l ≡ lineOf r ⌝ }
 {
     if r.identity & r.enable == 0 {
