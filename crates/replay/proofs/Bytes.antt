@@ -4,11 +4,14 @@ use mathlib.Core.Path.{_≡_, refl, sym, ap, _∙_}
 use mathlib.Core.List.{List, [], _∷_, _++_, append-assoc, append-nil}
 use native.Mathlib.Omega.{arith}
 use native.Mathlib.Nat.{add-zero, div-one, div-div-eq-div-mul, pow-suc, mul-comm}
+use borrow.Author.Tests.{ne-eqb}
+use mathlib.Core.Bool.{false}
 use lib.ListN.{length, getD, set, take, drop, length-append}
 use lib.Seq.{sets, sets-eq, length-sets, getD-take, getD-drop, drop-drop, take-at, take-append-le}
 use Rattle.gmch.specs.Words.{loadLe, storeLe, bytesOf}
-use Rattle.gmch.specs.Records.{answerBytes}
+use Rattle.gmch.specs.Records.{recordOf, fitsWord, answerBytes}
 use Rattle.gmch.specs.declared.Answer.{Answer}
+use Rattle.gmch.proofs.Choice.{choices}
 use Rattle.gmch.proofs.Words.{loadLe-cong, length-bytesOf}
 
 -- ---- a part of a list
@@ -22,6 +25,29 @@ loadLe-part l at n zero i h = refl
 loadLe-part l at n (suc w) i h =
     let e : at + (i + w) ≡ at + i + w = omega arith in
     rw (loadLe-part l at n w i (omega arith), getD-part l at n (i + w) (omega arith), e) refl
+
+-- a record's fields, from the bytes in front of which at others stand
+pub record-part : (l : List ℕ) (at : ℕ) → recordOf (take 16 (drop at l))
+    ≡ record { kind = getD l at 0; width = getD l (at + 1) 0; flags = getD l (at + 2) 0; zero = getD l (at + 3) 0; address = loadLe 4 (at + 4) l; value = loadLe 4 (at + 8) l; rest = loadLe 4 (at + 12) l }
+record-part l at =
+    rw (
+      getD-part l at 16 0 (omega arith),
+      add-zero at,
+      getD-part l at 16 1 (omega arith),
+      getD-part l at 16 2 (omega arith),
+      getD-part l at 16 3 (omega arith),
+      loadLe-part l at 16 4 4 (omega arith),
+      loadLe-part l at 16 4 8 (omega arith),
+      loadLe-part l at 16 4 12 (omega arith),
+    )
+    refl
+
+-- ---- code 2
+
+-- a width that is too large
+pub wide-misfits : (w a : ℕ) → 4 < w → fitsWord w a ≡ false
+unfolding fitsWord
+wide-misfits w a h = simp (ne-eqb w 1 (λ e. omega arith), ne-eqb w 2 (λ e. omega arith), ne-eqb w 4 (λ e. omega arith), choices)
 
 -- ---- stores one after the other
 

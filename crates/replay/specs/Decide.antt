@@ -1,6 +1,8 @@
 -- One record in two parts, as the code takes it: what is decided, answer and effect, with the state only read; and the
 -- effect on the state. proofs/Laws.antt shows that together they are `oneRecord`.
-use Prim.Native.Nat.{ℕ}
+use Prim.Native.Nat.{ℕ, _+_, _%_, _≤_, _<_}
+use mathlib.Core.Path.{_≡_}
+use mathlib.Core.Logic.{_⊎_}
 use mathlib.Core.List.{List}
 use mathlib.Core.Bool.{Bool, not}
 use lib.ListN.{set}
@@ -42,6 +44,29 @@ applied board s (Configure x width v) = registerWritten s x width v
 applied board s (Store o v) = mappedWritten s o v
 applied board s Error = withDev0 s (set (s .dev0) 0x70 (smramError (smramOf s)))
 applied board s Reset = coldStart board
+
+-- CF8h, or a register of ours with the bytes of its word that an access takes
+abbrev pub Placed : ℕ → ℕ → Type 0
+Placed x width = ((x ≡ 0xCF8) ⊎ (x < 512)) × (x % 4 + width ≤ 4)
+
+-- the bytes that an access takes are there
+abbrev pub Reachable : ℕ → ℕ → Target → Type 0
+Reachable tom width (Refused c) = Unit {0}
+Reachable tom width (Memory a) = a + width ≤ tom
+Reachable tom width (Register x) = Placed x width
+Reachable tom width (Hub a) = Unit {0}
+Reachable tom width (HubError a) = Unit {0}
+Reachable tom width (Vga o) = Unit {0}
+Reachable tom width (Mapped o) = Unit {0}
+
+-- and those of a configuration write
+abbrev pub Sound : Effect → Type 0
+Sound Keep = Unit {0}
+Sound (Ring r) = Unit {0}
+Sound (Configure x width v) = Placed x width
+Sound (Store o v) = Unit {0}
+Sound Error = Unit {0}
+Sound Reset = Unit {0}
 
 -- ---- decisions
 

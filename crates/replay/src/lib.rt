@@ -2,12 +2,10 @@
 // Accesses are decided on numbers, with table and memory lent; the state is changed in the loop, by an effect, so that
 // an access that reaches memory never copies it.
 use gmch::Answer;
-use gmch::Map;
-use gmch::Record;
 use gmch::Regs;
-use gmch::Route;
-use gmch::State;
-use gmch::Target;
+
+mod access;
+mod record;
 
 // What a record asks of the state.
 pub enum Effect {

@@ -1,0 +1,90 @@
+// Records and answers in bytes: the layout (code 13) and the width (code 2).
+use gmch::Answer;
+use gmch::Record;
+ghost use mathlib.Core.Path.{_≡_};
+ghost use Prim.Native.Nat.{_+_, _≤_};
+ghost use lib.ListN.{length, take, drop};
+ghost use lib.Seq.{sets};
+ghost use Rattle.gmch.specs.Records.{recordOf, isWrite, takesData, isProcessor, isManagement, wellFormed, fitsWord, answerBytes};
+
+// The fields of the 16 bytes at `at`.
+pub fn record_at(records: &[u8], at: usize) -> Record
+    requires { ⌜ at + 16 ≤ length (now records) ⌝ }
+    ensures { λ r. ⌜ r ≡ recordOf (take 16 (drop at (now (records .entry)))) ⌝ }
+{
+    Record {
+        kind: words::wide(records[at]),
+        width: words::wide(records[at + 1]),
+        flags: words::wide(records[at + 2]),
+        zero: words::wide(records[at + 3]),
+        address: words::load4(records, at + 4),
+        value: words::load4(records, at + 8),
+        rest: words::load4(records, at + 12),
+    }
+}
+
+// Kinds 2, 5 and 7 write.
+pub fn is_write(kind: u32) -> bool
+    ensures { λ r. ⌜ r ≡ isWrite kind ⌝ }
+{
+    (kind == 2) | ((kind == 5) | (kind == 7))
+}
+
+// A write's data, and the budget of a parser run.
+fn takes_data(kind: u32) -> bool
+    ensures { λ r. ⌜ r ≡ takesData kind ⌝ }
+{
+    is_write(kind) | (kind == 8)
+}
+
+// Kinds 3 to 5 are the processor's.
+fn is_processor(kind: u32) -> bool
+    ensures { λ r. ⌜ r ≡ isProcessor kind ⌝ }
+{
+    (3 <= kind) & (kind <= 5)
+}
+
+// A management-mode access.
+pub fn is_management(r: Record) -> bool
+    ensures { λ b. ⌜ b ≡ isManagement r ⌝ }
+{
+    is_processor(r.kind) & (r.flags % 2 == 1)
+}
+
+// The record keeps the layout; else code 13.
+pub fn well_formed(r: Record) -> bool
+    ensures { λ b. ⌜ b ≡ wellFormed r ⌝ }
+{
+    (1 <= r.kind)
+        & (r.kind <= 9)
+        & ((r.flags == 0) | is_processor(r.kind) & (r.flags == 1))
+        & (r.zero == 0)
+        & (r.rest == 0)
+        & (takes_data(r.kind) | (r.value == 0))
+        & ((r.kind <= 7) | (r.width == 0) & (r.address == 0))
+        & ((3 <= r.kind) | (r.address <= 65535))
+}
+
+// One, two or four bytes inside an aligned word of four; else code 2.
+pub fn fits_word(width: u32, address: u32) -> bool
+    ensures { λ r. ⌜ r ≡ fitsWord width address ⌝ }
+{
+    if 4 < width {
+        return false;
+    }
+    ((width == 1) | ((width == 2) | (width == 4))) & (address % 4 + width <= 4)
+}
+
+// Stores an answer's 16 bytes at `at`.
+pub fn put_answer(answers: &mut [u8], at: usize, a: Answer, line: u8)
+    requires { ⌜ at + 16 ≤ length (now answers) ⌝ }
+    ensures { λ _. ⌜ now (answers .exit) ≡ sets (now (answers .entry)) at (answerBytes a line) ⌝ }
+{
+    answers[at] = a.code;
+    answers[at + 1] = a.target;
+    answers[at + 2] = line;
+    answers[at + 3] = 0;
+    words::store4(answers, at + 4, a.address);
+    words::store4(answers, at + 8, a.value);
+    words::store4(answers, at + 12, a.count);
+}
