@@ -23,6 +23,12 @@ use Rattle.replay.specs.Decide.{effectAt, applied, decided, acted, decid
 use Rattle.replay.specs.declared.Effect.{Effect}
 use Rattle.replay.specs.declared.Effect.the-variants.{Keep, Ring, Configure, Store, Error, Reset}
 
+-- a choice between equals
+pub pick-same : {A : Type 0} (t : Bool) (x : A) → pick t x x ≡ x
+unfolding pick
+pick-same true x = refl
+pick-same false x = refl
+
 -- a write of a table entry leaves the other registers
 entry-keeps : (s : State) (o v : ℕ) → isEntry o ≡ true → mappedWritten s o v ≡ s
 unfolding mappedWritten isEntry isFence regsWritten within
