@@ -23,7 +23,7 @@ pub fn within(base: u32, n: u32, a: u32) -> bool
 }
 
 // The bytes that a code of two bits stands for.
-pub fn segment(code: u32) -> u32
+fn segment(code: u32) -> u32
     ensures { λ r. ⌜ r ≡ segment code ⌝ }
 {
     if code == 2 {
@@ -36,7 +36,7 @@ pub fn segment(code: u32) -> u32
 }
 
 // HSEG acts.
-pub fn hseg_acts(smram: u32) -> bool
+fn hseg_acts(smram: u32) -> bool
     ensures { λ r. ⌜ r ≡ hsegActs smram ⌝ }
 {
     (0 < smram / 16 % 4) & (smram / 4 % 4 == 0)
@@ -160,54 +160,57 @@ pub fn route(m: Map, management: bool, code: bool, a: u32) -> Route
     requires { ⌜ Tom (m .tom) ⌝ }
     ensures { λ r. ⌜ r ≡ routeOf m management code a ⌝ }
 {
-    if a < 0xA0000 {
+    if a < 0xA0000 { // rule 1
         return Route::To(Target::Memory(a));
     }
-    if a < 0xC0000 {
+    if a < 0xC0000 { // rule 2
         return Route::To(low_target(m.smram, management, code, a));
     }
-    if a < 0x100000 {
+    if a < 0x100000 { // rule 3
         return Route::To(Target::Hub(a));
     }
     if a < m.tom {
         let tseg = m.tom - segment(m.smram / 16 % 4);
-        if a < tseg - segment(m.smram / 64 % 4) {
+        let usable = tseg - segment(m.smram / 64 % 4);
+        if a < usable { // rule 4
             return Route::To(Target::Memory(a));
         }
-        return Route::To(top_target(tseg, management, a));
+        return Route::To(top_target(tseg, management, a)); // rule 5
     }
-    if hseg_hit(m.smram, a) {
+    if hseg_hit(m.smram, a) { // rule 6
         return Route::To(hseg_target(management, a));
     }
-    if graphics_hit(m.on, m.mmadr, 0x80000, a) {
+    if graphics_hit(m.on, m.mmadr, 0x80000, a) { // rule 7
         return Route::Registers(a - m.mmadr);
     }
-    if graphics_hit(m.on, m.gmadr, m.window, a) {
+    if graphics_hit(m.on, m.gmadr, m.window, a) { // rule 8
         return Route::Window(a - m.gmadr);
     }
-    Route::To(Target::Hub(a))
+    Route::To(Target::Hub(a)) // rule 9
 }
 
 // ---- hub masters
 
-// Where a hub master's access goes. The host's call shows the length of memory.
+// Where a hub master's access goes: memory or the hub, and no error bit. The host's call shows the length of memory.
 pub fn master_target(m: Map, a: u32) -> Target
     requires { ⌜ Tom (m .tom) ⌝ }
     ensures { λ r. ⌜ r ≡ masterTarget m a ⌝ }
 {
-    if a < 0xA0000 {
+    if a < 0xA0000 { // as rule 1
         return Target::Memory(a);
     }
-    if a < 0xC0000 {
+    if a < 0xC0000 { // as rule 2 with LSMM 01
         if m.smram / 4 % 4 == 1 {
             return Target::Memory(a);
         }
         return Target::Hub(a);
     }
-    if a < 0x100000 {
+    if a < 0x100000 { // as rule 3
         return Target::Hub(a);
     }
-    if a < m.tom - segment(m.smram / 16 % 4) - segment(m.smram / 64 % 4) {
+    let tseg = m.tom - segment(m.smram / 16 % 4);
+    let usable = tseg - segment(m.smram / 64 % 4);
+    if a < usable { // as rule 4
         return Target::Memory(a);
     }
     Target::Hub(a)
