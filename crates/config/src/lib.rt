@@ -5,10 +5,10 @@ use gmch::Target;
 ghost use mathlib.Core.Path.{_≡_};
 ghost use mathlib.Core.Logic.{_⊎_};
 ghost use Prim.Native.Nat.{ℕ, _+_, _%_, _<_, _≤_};
-ghost use Rattle.gmch.specs.Smram.{smramWritten};
-ghost use Rattle.gmch.specs.Config.{byteAt, fixedAt, merge, newByte, touches, configWrite, readByte, configRead, registerValue, registerWritten, present, ours, portTarget};
+ghost use Rattle.gmch.specs.Config.{present, ours, portTarget, registerValue, registerWritten};
 ghost use Rattle.gmch.specs.Replay.{coldStart};
 
+mod access;
 mod rows;
 
 // The state at a cold start.
@@ -82,124 +82,6 @@ pub fn port_target(cf8: u32, smram: u32, width: u32, port: u32) -> Target
     Target::Hub(port)
 }
 
-// What a write leaves in SMRAM: bit 0 is cleared by writing 1, and the lock holds the others.
-fn smram_written(old: u8, v: u8) -> u8
-    ensures { λ r. ⌜ r ≡ smramWritten old v ⌝ }
-{
-    if old / 2 % 2 == 1 {
-        if v % 2 == 1 {
-            return old / 2 * 2;
-        }
-        return old / 2 * 2 + old % 2;
-    }
-    if v % 2 == 1 {
-        return v / 2 * 2;
-    }
-    v / 2 * 2 + old % 2
-}
-
-// The byte x of the two devices.
-fn byte_at(s: State, x: u32) -> u8
-    requires { ⌜ x < 512 ⌝ }
-    ensures { λ r. ⌜ r ≡ byteAt s x ⌝ }
-{
-    if x < 256 {
-        return s.dev0[x as usize];
-    }
-    s.dev1[(x - 256) as usize]
-}
-
-// Whether x is in a write-once register that has been written.
-fn is_fixed(s: State, x: u32) -> bool
-    ensures { λ r. ⌜ r ≡ fixedAt s x ⌝ }
-{
-    ((x / 2 == 0x96) & s.wrote2c) | ((x / 2 == 0x97) & s.wrote2e)
-}
-
-// A byte by the masks of its row: the writable bits take v's, and the clearing bits that v has are cleared.
-fn merged(old: u8, v: u8, writable: u8, clearing: u8) -> u8
-    ensures { λ r. ⌜ r ≡ merge old v writable clearing ⌝ }
-{
-    (old & !writable | v & writable) & !(v & clearing)
-}
-
-// What a write of v leaves in the byte x, which was old.
-fn new_byte(s: State, x: u32, old: u8, v: u8) -> u8
-    ensures { λ r. ⌜ r ≡ newByte s x old v ⌝ }
-{
-    if x == 0x70 {
-        return smram_written(old, v);
-    }
-    let m = rows::masks_of(x);
-    if is_fixed(s, x) {
-        return merged(old, v, 0, m.clearing as u8);
-    }
-    merged(old, v, m.writable as u8, m.clearing as u8)
-}
-
-// Whether n bytes at x touch one of the two bytes at k.
-fn is_touched(k: u32, x: u32, n: u32) -> bool
-    requires { ⌜ (k < 512) × (x + n ≤ 512) ⌝ }
-    ensures { λ r. ⌜ r ≡ touches k x n ⌝ }
-{
-    if x < k + 2 {
-        return k < x + n;
-    }
-    false
-}
-
-// A write of the n low bytes of v to configuration registers.
-fn config_write(s: State, x: u32, n: u32, v: u32) -> State
-    requires { ⌜ x + n ≤ 512 ⌝ }
-    ensures { λ r. ⌜ r ≡ configWrite s x n v ⌝ }
-{
-    let mut t = s;
-    let mut rest = v;
-    let mut i: u32 = 0;
-    while i < n {
-        let at = x + i;
-        let b = new_byte(t, at, byte_at(t, at), (rest % 256) as u8);
-        if at < 256 {
-            t.dev0[at as usize] = b;
-        } else {
-            t.dev1[(at - 256) as usize] = b;
-        }
-        rest = rest / 256;
-        i = i + 1;
-    }
-    let c = is_touched(0x12C, x, n);
-    let e = is_touched(0x12E, x, n);
-    t.wrote2c = t.wrote2c | c;
-    t.wrote2e = t.wrote2e | e;
-    t
-}
-
-// What the byte x reads as: GMADR bit 25 reads 0 while the window is 64 MiB.
-fn read_byte(s: State, x: u32) -> u8
-    requires { ⌜ x < 512 ⌝ }
-    ensures { λ r. ⌜ r ≡ readByte s x ⌝ }
-{
-    let b = byte_at(s, x);
-    if (x == 0x113) & (s.dev0[0x72] % 2 == 0) {
-        return b & 0xFD;
-    }
-    b
-}
-
-// A read of n bytes of configuration registers.
-fn config_read(s: State, x: u32, n: u32) -> u32
-    requires { ⌜ (n ≤ 4) × (x + n ≤ 512) ⌝ }
-    ensures { λ r. ⌜ r ≡ configRead s x n ⌝ }
-{
-    let mut v: u32 = 0;
-    let mut i = n;
-    while 0 < i {
-        i = i - 1;
-        v = read_byte(s, x + i) as u32 + 256 * v;
-    }
-    v
-}
-
 // What an access at x reads: CF8h or configuration registers.
 pub fn register_value(s: State, x: u32, width: u32) -> u32
     requires { ⌜ ((x ≡ 0xCF8) ⊎ (x < 512)) × (x % 4 + width ≤ 4) ⌝ }
@@ -208,7 +90,7 @@ pub fn register_value(s: State, x: u32, width: u32) -> u32
     if x == 0xCF8 {
         return s.cf8;
     }
-    config_read(s, x, width)
+    access::config_read(s, x, width)
 }
 
 // The state after a write at x: to CF8h or to configuration registers.
@@ -221,5 +103,5 @@ pub fn register_written(s: State, x: u32, width: u32, v: u32) -> State
         t.cf8 = v & 0x80FFFFFC;
         return t;
     }
-    config_write(s, x, width, v)
+    access::config_write(s, x, width, v)
 }

@@ -1,7 +1,7 @@
 use borrow.Author.Needs.{needs}
 use Rattle.gmch.proofs.Choice.{tests}
-use Rattle.config.proofs.byte_at.Statement.{statement}
-use Rattle.config.proofs.byte_at.Tie as tie
+use Rattle.config.proofs.access.byte_at.Statement.{statement}
+use Rattle.config.proofs.access.byte_at.Tie as tie
 
 pub byte-at-spec : {M : Type 1} → statement M
 byte-at-spec =

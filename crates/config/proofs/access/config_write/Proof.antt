@@ -6,8 +6,8 @@ use native.Mathlib.Nat.{add-zero, sub-zero}
 use native.Mathlib.Omega.{arith}
 use Rattle.gmch.specs.Config.{writeByte, writeBytes}
 use Rattle.config.proofs.Bytes.{write-step, written-0, written-1, flagged}
-use Rattle.config.proofs.config_write.Statement.{statement}
-use Rattle.config.proofs.config_write.Tie as tie
+use Rattle.config.proofs.access.config_write.Statement.{statement}
+use Rattle.config.proofs.access.config_write.Tie as tie
 
 abbrev Inv-loop : tie.InvT-loop
 Inv-loop x n v t₀ rest₀ i₀ t rest i = (i ≤ n) × (writeBytes t (x + i) (n - i) rest ≡ writeBytes t₀ x n v)
@@ -18,24 +18,21 @@ abbrev μ-loop : tie.MeasureT-loop
 loop-holds : tie.Need-loop-holds Inv-loop μ-loop
 loop-holds c = (omega arith, simp (add-zero, sub-zero))
 
--- the byte's store, in either device
-stored : (c : tie.Joined1 Inv-loop μ-loop) → c .if1 .t ≡ writeByte (c .before .before .before .before .loop .t)
-    (c .before .before .before .before .before .args .x + c .before .before .before .before .loop .i) (c .before .before .before .before .loop .rest % 256)
-stored c =
-    let b = c .before .before .before .before in
-    let x = b .before .args .x + b .loop .i in
+loop-again : tie.Need-loop-again Inv-loop μ-loop
+loop-again c =
+    let l = c .before .before .before .before .before .before in
+    let b = l .before in
+    let a = b .before .args in
     let o = c .before .before .byte-at .ensures in
     let n = c .before .new-byte .ensures in
+    let x = a .x + b .loop .i in
+    let e : c .if1 .t ≡ writeByte (b .loop .t) x (b .loop .rest % 256) =
     ⊎-elim
     (λ w. w .1 ∙ written-0 (b .loop .t) x _ _ (b .loop .rest % 256) o n (w .0 .taken))
     (λ w. w .1 ∙ written-1 (b .loop .t) x _ _ (b .loop .rest % 256) o n (w .0 .left))
     (c .if1 .came)
-
-loop-again : tie.Need-loop-again Inv-loop μ-loop
-loop-again c =
-    let b = c .before .before .before .before in
-    let a = b .before .args in
-    (omega arith, rw (stored c) (sym (write-step (b .loop .t) (a .x) (b .loop .i) (a .n) (b .loop .rest) (c .before .before .before .loop-test .taken)) ∙ b .loop .inv .1))
+    in
+    (omega arith, rw e (sym (write-step (b .loop .t) (a .x) (b .loop .i) (a .n) (b .loop .rest) (l .loop-test .taken)) ∙ b .loop .inv .1))
 
 returns : tie.Need-returns Inv-loop μ-loop
 unfolding writeBytes

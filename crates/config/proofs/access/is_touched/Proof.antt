@@ -1,8 +1,8 @@
 use borrow.Author.Needs.{needs}
 use Rattle.gmch.proofs.Choice.{tests}
 use Rattle.gmch.specs.Config.{touches}
-use Rattle.config.proofs.is_touched.Statement.{statement}
-use Rattle.config.proofs.is_touched.Tie as tie
+use Rattle.config.proofs.access.is_touched.Statement.{statement}
+use Rattle.config.proofs.access.is_touched.Tie as tie
 
 pub is-touched-spec : {M : Type 1} → statement M
 is-touched-spec =

@@ -1,7 +1,7 @@
 use mathlib.Core.Path.{refl}
 use Rattle.gmch.specs.Config.{merge}
-use Rattle.config.proofs.merged.Statement.{statement}
-use Rattle.config.proofs.merged.Tie as tie
+use Rattle.config.proofs.access.merged.Statement.{statement}
+use Rattle.config.proofs.access.merged.Tie as tie
 
 pub merged-spec : {M : Type 1} → statement M
 merged-spec =

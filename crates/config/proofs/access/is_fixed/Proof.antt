@@ -1,7 +1,7 @@
 use Rattle.gmch.specs.Config.{fixedAt}
 use Rattle.config.proofs.Both.{bools}
-use Rattle.config.proofs.is_fixed.Statement.{statement}
-use Rattle.config.proofs.is_fixed.Tie as tie
+use Rattle.config.proofs.access.is_fixed.Statement.{statement}
+use Rattle.config.proofs.access.is_fixed.Tie as tie
 
 pub is-fixed-spec : {M : Type 1} → statement M
 is-fixed-spec =

@@ -3,8 +3,8 @@ use borrow.Author.Tests.{ne-eqb}
 use Rattle.gmch.proofs.Choice.{choices, called}
 use Rattle.gmch.specs.Config.{writableAt, newByte}
 use Rattle.config.proofs.Scan.{masks-bytes}
-use Rattle.config.proofs.new_byte.Statement.{statement}
-use Rattle.config.proofs.new_byte.Tie as tie
+use Rattle.config.proofs.access.new_byte.Statement.{statement}
+use Rattle.config.proofs.access.new_byte.Tie as tie
 
 returns-2 : tie.Need-returns-2
 unfolding newByte writableAt

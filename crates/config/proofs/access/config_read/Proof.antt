@@ -6,23 +6,23 @@ use native.Mathlib.Omega.{arith}
 use borrow.Author.Needs.{needs}
 use Rattle.gmch.specs.Config.{configRead}
 use Rattle.config.proofs.Bytes.{read-step, grows, word-fits}
-use Rattle.config.proofs.config_read.Statement.{statement}
-use Rattle.config.proofs.config_read.Tie as tie
+use Rattle.config.proofs.access.config_read.Statement.{statement}
+use Rattle.config.proofs.access.config_read.Tie as tie
 
 abbrev Inv-loop : tie.InvT-loop
-Inv-loop s x n v₀ i₀ v i = (i ≤ n) × (v ≡ configRead s (x + i) (n - i)) × (v < 256 ^ (n - i))
+Inv-loop x n s v₀ i₀ v i = (i ≤ n) × (v ≡ configRead s (x + i) (n - i)) × (v < 256 ^ (n - i))
 
 abbrev μ-loop : tie.MeasureT-loop
-μ-loop s x n v₀ i₀ v i = i
+μ-loop x n s v₀ i₀ v i = i
 
 loop-holds : tie.Need-loop-holds Inv-loop μ-loop
 unfolding configRead
 loop-holds c = (omega arith, rw sub-self, rw sub-self (omega arith))
 
 -- one byte more fits a word
-fits : (c : tie.After-read-byte Inv-loop μ-loop) → c .read-byte .result + 256 * c .before .before .loop .v < 2 ^ 32
+fits : (c : tie.After-read-byte Inv-loop μ-loop) → c .read-byte .result + 256 * c .before .before .before .before .before .before .loop .v < 2 ^ 32
 fits c =
-    let b = c .before .before in
+    let b = c .before .before .before .before .before .before in
     word-fits (b .before .args .n - b .loop .i) (b .loop .v) (c .read-byte .result) (omega arith) (b .loop .inv .2) (search needs)
 
 mul-v : tie.Need-mul-v Inv-loop μ-loop
@@ -33,11 +33,12 @@ add-v c = omega (arith, fits c)
 
 loop-again : tie.Need-loop-again Inv-loop μ-loop
 loop-again c =
-    let b = c .before .before in
+    let l = c .before .before .before .before .before in
+    let b = l .before in
     let a = b .before .args in
     let e : a .n - (b .loop .i - 1) ≡ suc (a .n - b .loop .i) = omega arith in (
       omega arith,
-      rw (c .read-byte .ensures, b .loop .inv .1) (sym (read-step (a .s) (a .x) (b .loop .i) (a .n) (c .before .loop-test .taken) (b .loop .inv .0))),
+      rw (c .read-byte .ensures, b .loop .inv .1) (sym (read-step (a .t1) (a .x) (b .loop .i) (a .n) (l .loop-test .taken) (b .loop .inv .0))),
       rw e (grows (a .n - b .loop .i) (b .loop .v) (c .read-byte .result) (b .loop .inv .2) (search needs)),
     )
 
@@ -56,6 +57,7 @@ config-read-spec =
     (λ c. omega arith)
     (λ c. omega arith)
     (λ c κs. omega arith)
+    (λ c κs. c .byte-at .ensures)
     (λ c. search needs)
     mul-v
     add-v

@@ -2,8 +2,8 @@ use borrow.Author.Needs.{needs}
 use native.Mathlib.Nat.{add-zero}
 use Rattle.gmch.proofs.Choice.{tests}
 use Rattle.gmch.specs.Smram.{smramWritten}
-use Rattle.config.proofs.smram_written.Statement.{statement}
-use Rattle.config.proofs.smram_written.Tie as tie
+use Rattle.config.proofs.access.smram_written.Statement.{statement}
+use Rattle.config.proofs.access.smram_written.Tie as tie
 
 pub smram-written-spec : {M : Type 1} → statement M
 smram-written-spec =
