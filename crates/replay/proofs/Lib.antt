@@ -1,3 +1,4 @@
 pub mod Laws
 pub mod Bytes
 pub mod Loop
+pub mod Bounds

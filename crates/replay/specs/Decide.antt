@@ -21,6 +21,8 @@ use Rattle.gmch.specs.declared.Answer.{Answer}
 use Rattle.gmch.specs.declared.Ran.{Ran}
 use Rattle.gmch.specs.declared.Target.{Target}
 use Rattle.gmch.specs.declared.Target.the-variants.{Refused, Memory, Register, Hub, HubError, Vga, Mapped}
+use Rattle.gmch.specs.declared.Route.{Route}
+use Rattle.gmch.specs.declared.Route.the-variants.{To, Registers, Window}
 use Rattle.replay.specs.declared.Effect.{Effect}
 use Rattle.replay.specs.declared.Effect.the-variants.{Keep, Ring, Configure, Store, Error, Reset}
 use Rattle.replay.specs.declared.Decided.{Decided}
@@ -59,7 +61,13 @@ Reachable tom width (HubError a) = Unit {0}
 Reachable tom width (Vga o) = Unit {0}
 Reachable tom width (Mapped o) = Unit {0}
 
--- and those of a configuration write
+-- an offset that rule 8 gives is in the window
+abbrev pub InWindow : Route → Type 0
+InWindow (To t) = Unit {0}
+InWindow (Registers o) = Unit {0}
+InWindow (Window o) = o < 0x4000000
+
+-- the bytes of a configuration write are there
 abbrev pub Sound : Effect → Type 0
 Sound Keep = Unit {0}
 Sound (Ring r) = Unit {0}

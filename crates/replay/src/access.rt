@@ -20,7 +20,7 @@ ghost use Rattle.gmch.specs.Config.{registerValue};
 ghost use Rattle.gmch.specs.Map.{Tom, mapOf};
 ghost use Rattle.gmch.specs.Mapped.{mappedValue, tableWritten};
 ghost use Rattle.gmch.specs.Replay.{resolved, memoryTarget, targetOf, tableAfter, memoryAfter};
-ghost use Rattle.replay.specs.Decide.{Placed, Reachable, decided, acted, effectAt};
+ghost use Rattle.replay.specs.Decide.{Placed, Reachable, InWindow, decided, acted, effectAt};
 ghost use Rattle.words.specs.Width.{Width};
 
 // What the map goes by, read off the state.
@@ -38,7 +38,66 @@ pub fn map_of(tom: u32, s: State) -> Map
     )
 }
 
-// ---- what an access does
+// ---- where it ends
+
+// What the rules leave open: the list of registers, or fences and table. `memory_target` shows that an offset is in the window.
+fn resolve(
+    m: Map,
+    fences: [u32; 8],
+    control: u32,
+    table: &[u32],
+    width: u32,
+    route: Route,
+) -> Target
+    requires { ⌜ Tom (m .tom) × (length (now table) ≡ 16384) × InWindow route ⌝ }
+    ensures { λ r. ⌜ r ≡ resolved m fences control (now (table .entry)) width route ⌝ }
+{
+    match route {
+        Route::To(t) => t,
+        Route::Registers(o) => {
+            if mapped::misfit(o, width) {
+                return Target::Refused(10);
+            }
+            Target::Mapped(o)
+        }
+        Route::Window(o) => match graphics::window(m, fences, control, table, o) {
+            Reach::At(a) => Target::Memory(a),
+            Reach::Denied(c) => Target::Refused(c),
+        },
+    }
+}
+
+// The processor's accesses and the hub masters'.
+fn memory_target(m: Map, fences: [u32; 8], control: u32, table: &[u32], r: Record) -> Target
+    requires { ⌜ Tom (m .tom) × (length (now table) ≡ 16384) × (m .window ≤ 0x4000000) ⌝ }
+    ensures { λ t. ⌜ t ≡ memoryTarget m fences control (now (table .entry)) r ⌝ }
+{
+    if r.kind <= 5 {
+        let management = record::is_management(r);
+        let route = map::route(m, management, r.kind == 4, r.address);
+        return resolve(m, fences, control, table, r.width, route);
+    }
+    map::master_target(m, r.address)
+}
+
+// Any access of a record that keeps the layout.
+pub fn target_of(tom: u32, s: State, table: &[u32], r: Record) -> Target
+    requires { ⌜ Tom tom × (length (now table) ≡ 16384) ⌝ }
+    ensures { λ t. ⌜ t ≡ targetOf tom s (now (table .entry)) r ⌝ }
+{
+    if !record::fits_word(r.width, r.address) {
+        return Target::Refused(2);
+    }
+    if r.kind <= 2 {
+        let smram = words::wide(s.dev0[0x70]);
+        return config::port_target(s.cf8, smram, r.width, r.address);
+    }
+    let m = map_of(tom, s);
+    let fences = s.fences;
+    memory_target(m, fences, s.regs.control, table, r)
+}
+
+// ---- what it does there
 
 // At an address of memory.
 fn in_memory(memory: &mut [u8], write: bool, width: u32, v: u32, a: u32) -> Decided
