@@ -1,6 +1,6 @@
 -- The laws of the ring parser: why a step ends, is refused or fetches, and what a completed step leaves.
 use Prim.Native.Nat.{ℕ, suc, _+_, _-_, _*_, _/_, _%_, _≤_, _<_}
-use mathlib.Core.Path.{_≡_, refl, sym, subst}
+use mathlib.Core.Path.{_≡_, refl, subst}
 use mathlib.Core.Logic.{_⊎_, inl, inr, ⊎-elim}
 use mathlib.Core.List.{List}
 use mathlib.Core.Bool.{false}
@@ -196,24 +196,22 @@ module _ (m : Map) (table memory : List ℕ) where
       by : Outcome r (Failed c) → 0 < c
       by (failed k h) = h
 
--- ---- the first step of a run with n left, for the loop
+-- ---- one turn of a loop, of whose run q the rest is left
 
-module _ (m : Map) (table memory : List ℕ) (n count : ℕ) (r : Regs) (some : 0 < n) where
-  first : run m table memory n count r ≡ onward r count (λ r′. run m table memory (n - 1) (count + 1) r′) (step m table memory r)
+module _ (m : Map) (table memory : List ℕ) (budget count : ℕ) (r : Regs) (q : Ran)
+    (rest : run m table memory (budget - count) count r ≡ q) (some : count < budget) where
+  turn : onward r count (λ r′. run m table memory (budget - (count + 1)) (count + 1) r′) (step m table memory r) ≡ q
   unfolding run
-  first =
-      let e : n ≡ suc (n - 1) = omega arith in
-      subst (λ (k : ℕ). run m table memory k count r ≡ onward r count (λ r′. run m table memory (n - 1) (count + 1) r′) (step m table memory r)) (sym e)
-      (rw add-one refl)
+  turn = let e : budget - count ≡ suc (budget - suc count) = omega arith in rw add-one (rw e at rest)
 
-  pub run-ended : step m table memory r ≡ Ended → run m table memory n count r ≡ ran 0 r count
+  pub run-ended : step m table memory r ≡ Ended → ran 0 r count ≡ q
   unfolding onward
-  run-ended e = rw (first, e)
+  run-ended e = rw e at turn
 
-  pub run-failed : (c : ℕ) → step m table memory r ≡ Failed c → run m table memory n count r ≡ ran c r count
+  pub run-failed : (c : ℕ) → step m table memory r ≡ Failed c → ran c r count ≡ q
   unfolding onward
-  run-failed c e = rw (first, e)
+  run-failed c e = rw e at turn
 
-  pub run-done : (r′ : Regs) → step m table memory r ≡ Done r′ → run m table memory n count r ≡ run m table memory (n - 1) (count + 1) r′
+  pub run-done : (r′ : Regs) → step m table memory r ≡ Done r′ → run m table memory (budget - (count + 1)) (count + 1) r′ ≡ q
   unfolding onward
-  run-done r′ e = rw (first, e)
+  run-done r′ e = rw e at turn
