@@ -52,14 +52,17 @@ module _ (m : Map) (a : ℕ) where
   unfolding entryReach
   entryReach-at entry o =
       pick-elim P _ (λ t. denied 4 a) (λ valid. pick-elim P _ (λ t. denied 5 a) (λ main.
-      pick-elim P _ (λ t. denied 7 a) (λ past. pick-elim P _ (λ t. denied 6 a) (λ free e.
-      let q : pageOf entry + o % 4096 ≡ a = cc in
-      let p : pageOf entry ≡ a / 4096 * 4096 = omega arith in
-      let b = leb-false (m .tom) (pageOf entry) past in
-      (record { below = omega arith; free = rw (← p) free }, omega arith)))))
+      pick-elim P _ (λ t. denied 7 a) (λ past. pick-elim P _ (λ t. denied 6 a) (λ free. reached past free))))
     where
       P : Reach → Type 0
       P r = r ≡ At a → Reached m a × (a % 4096 ≡ o % 4096)
+
+      reached : leb (m .tom) (pageOf entry) ≡ false → protectedAt (m .tom) (m .smram) (pageOf entry) ≡ false → P (At (pageOf entry + o % 4096))
+      reached past free e =
+          let q : pageOf entry + o % 4096 ≡ a = cc in
+          let p : pageOf entry ≡ a / 4096 * 4096 = omega arith in
+          let b = leb-false (m .tom) (pageOf entry) past in
+          (record { below = omega arith; free = rw (← p) free }, omega arith)
 
   pub translate-at : (control : ℕ) (table : List ℕ) (o : ℕ) → translate m control table o ≡ At a → Reached m a × (a % 4096 ≡ o % 4096)
   unfolding translate
