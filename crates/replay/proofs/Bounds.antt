@@ -23,7 +23,7 @@ use Rattle.gmch.specs.declared.Target.{Target}
 use Rattle.gmch.specs.declared.Target.the-variants.{Refused, Memory, Register, Hub, HubError, Vga, Mapped}
 use Rattle.gmch.specs.declared.Route.{Route}
 use Rattle.gmch.specs.declared.Route.the-variants.{To, Registers, Window}
-use Rattle.gmch.proofs.Choice.{pick-elim, and-left, and-right}
+use Rattle.gmch.proofs.Choice.{choices, pick-elim, and-left, and-right}
 use Rattle.gmch.proofs.Rules.{Made, made, Ends, Outcome, outcome, master-ends}
 use Rattle.gmch.proofs.Rules
 use Rattle.gmch.proofs.Config.{Ported, port-register}
@@ -45,9 +45,9 @@ pub route-in-window : (m : Map) (management code : Bool) (a : ℕ) (r : Route) �
 route-in-window m management code a r z h e = rw e (in-window h (outcome m a z management code))
 
 -- a map that was read off the state
-pub map-sound : (tom : ℕ) (s : State) (m : Map) → Tom tom → m ≡ mapOf tom s → Tom (m .tom) × (m .window ≤ 0x4000000)
+pub map-sound : (tom : ℕ) (s : State) (m : Map) → Tom tom → m ≡ mapOf tom s → Tom (m .tom) × (m .window ≤ 0x4000000) × (m .tom ≡ tom)
 unfolding mapFrom windowSize
-map-sound tom s m z e = rw e (z, pick-elim (λ (n : ℕ). n ≤ 0x4000000) _ (λ _. omega arith) (λ _. omega arith))
+map-sound tom s m z e = rw e (z, pick-elim (λ (n : ℕ). n ≤ 0x4000000) _ (λ _. omega arith) (λ _. omega arith), refl)
 
 -- ---- widths
 
@@ -99,17 +99,25 @@ target-register tom s table r x z =
     P : Target → Type 0
     P t = t ≡ Register x → Placed x (r .width)
 
-reachable : {tom b w : ℕ} {management : Bool} {t : Target} → Tom tom → Safe tom b management w t → ((x : ℕ) → t ≡ Register x → Placed x w) → Reachable tom w t
-reachable z refused-safe f = tt
-reachable z (memory-safe p l h n) f = omega arith
-reachable z (register-safe {x}) f = f x refl
-reachable z hub-safe f = tt
-reachable z error-safe f = tt
-reachable z vga-safe f = tt
-reachable z mapped-safe f = tt
+reachable : {tom b w : ℕ} {management : Bool} {t : Target} → Tom tom → Width w → Safe tom b management w t → ((x : ℕ) → t ≡ Register x → Placed x w) → Reachable tom w t
+reachable z d refused-safe f = tt
+reachable z d (memory-safe p l h n) f = (d, omega arith)
+reachable z d (register-safe {x}) f = f x refl
+reachable z d hub-safe f = tt
+reachable z d error-safe f = tt
+reachable z d vga-safe f = tt
+reachable z d mapped-safe f = tt
+
+misfit-refused : (tom : ℕ) (s : State) (table : List ℕ) (r : Record) → fitsWord (r .width) (r .address) ≡ false → targetOf tom s table r ≡ Refused 2
+unfolding targetOf
+misfit-refused tom s table r e = simp (e, choices)
 
 pub target-reachable : (tom : ℕ) (s : State) (table : List ℕ) (r : Record) → Tom tom → Reachable tom (r .width) (targetOf tom s table r)
-target-reachable tom s table r z = reachable z (target-safe tom s table r z) (λ x e. target-register tom s table r x z e)
+target-reachable tom s table r z = by (fitsWord (r .width) (r .address)) refl
+  where
+    by : (x : Bool) → fitsWord (r .width) (r .address) ≡ x → Reachable tom (r .width) (targetOf tom s table r)
+    by true e = reachable z (fits-width (r .width) (r .address) e) (target-safe tom s table r z) (λ x q. target-register tom s table r x z q)
+    by false e = rw (misfit-refused tom s table r e) tt
 
 -- ---- effects
 

@@ -6,20 +6,23 @@ use mathlib.Core.Bool.{Bool, true, false, not}
 use native.Mathlib.Omega.{arith}
 use lib.ListN.{set, length}
 use lib.Dec.{eqb, ltb, leb}
-use borrow.Author.Tests.{ne-eqb, le-ltb}
+use borrow.Author.Tests.{eq-eqb, ne-eqb, le-ltb}
+use mathlib.Core.Logic.{_≢_}
 use Rattle.gmch.specs.Choice.{pick, _and_, within}
 use Rattle.gmch.specs.Records.{isWrite, wellFormed, reply}
 use Rattle.gmch.specs.Config.{registerWritten, withRegs}
 use Rattle.gmch.specs.Map.{mapOf}
 use Rattle.gmch.specs.Mapped.{isEntry, isFence, mappedWritten, regsWritten}
-use Rattle.gmch.specs.Replay.{targetOf, stateAfter, tableAfter, memoryAfter, Out, out, access, parsed, reset, coldStart, oneRecord}
+use Rattle.gmch.specs.Replay.{coldTable, targetOf, stateAfter, tableAfter, memoryAfter, Out, out, access, parsed, reset, coldStart, oneRecord}
 use Rattle.gmch.specs.declared.State.{State}
 use Rattle.gmch.specs.declared.Regs.{Regs}
 use Rattle.gmch.specs.declared.Record.{Record}
 use Rattle.gmch.specs.declared.Target.{Target}
 use Rattle.gmch.specs.declared.Target.the-variants.{Refused, Memory, Register, Hub, HubError, Vga, Mapped}
 use Rattle.gmch.proofs.Choice.{choices, pick-elim, pick-elim₂, clash, within-from, within-to}
-use Rattle.replay.specs.Decide.{effectAt, applied, decided, acted, decide, tableBy, memoryBy}
+use Rattle.replay.specs.Decide.{effectAt, applied, decided, acted, runAnswer, decide, tableBy, memoryBy}
+use Rattle.replay.specs.declared.Decided.{Decided}
+use Rattle.gmch.specs.Ring.{run}
 use Rattle.replay.specs.declared.Effect.{Effect}
 use Rattle.replay.specs.declared.Effect.the-variants.{Keep, Ring, Configure, Store, Error, Reset}
 
@@ -63,6 +66,42 @@ applied-access board s true width v (Mapped o) = by (isEntry o) refl
     by : (x : Bool) → isEntry o ≡ x → applied board s (pick (true and not (isEntry o)) (Store o v) Keep) ≡ pick true (mappedWritten s o v) s
     by true e = simp (e, choices) (sym (entry-keeps s o v e))
     by false e = simp (e, choices)
+
+-- ---- a record by its kind
+
+pub record Decision (tom : ℕ) (s : State) (table memory : List ℕ) (r : Record) (d : Decided) (t m : List ℕ) : Type 0 where
+  pub decision : decide tom s table memory r ≡ d
+  pub tables : tableBy tom s table r ≡ t
+  pub memories : memoryBy tom s table memory r ≡ m
+
+module _ (tom : ℕ) (s : State) (table memory : List ℕ) (r : Record) where
+  pub malformed : not (wellFormed r) ≡ true → Decision tom s table memory r (decided (reply (Refused 13) 0) Keep) table memory
+  unfolding decide tableBy memoryBy
+  malformed e = record { decision = simp (e, choices); tables = simp (e, choices); memories = simp (e, choices) }
+
+  module _ (e : not (wellFormed r) ≡ false) where
+    pub a-run : r .kind ≡ 8
+        → let q = run (mapOf tom s) table memory (r .value) 0 (s .regs) in
+        Decision tom s table memory r (decided (runAnswer q) (Ring (q .regs))) table memory
+    unfolding decide tableBy memoryBy
+    a-run k = let f = eq-eqb (r .kind) 8 k in record { decision = simp (e, f, choices); tables = simp (e, f, choices); memories = simp (e, f, choices) }
+
+    module _ (n : r .kind ≢ 8) where
+      pub a-reset : r .kind ≡ 9 → Decision tom s table memory r (decided (reply (Refused 0) 0) Reset) coldTable memory
+      unfolding decide tableBy memoryBy
+      a-reset k =
+          let f = ne-eqb (r .kind) 8 n in
+          let g = eq-eqb (r .kind) 9 k in
+          record { decision = simp (e, f, g, choices); tables = simp (e, f, g, choices); memories = simp (e, f, g, choices) }
+
+      pub an-access : r .kind ≢ 9
+          → let t = targetOf tom s table r in
+          Decision tom s table memory r (acted s table memory (isWrite (r .kind)) (r .width) (r .value) t) (tableAfter table (isWrite (r .kind)) (r .value) t) (memoryAfter memory (isWrite (r .kind)) (r .width) (r .value) t)
+      unfolding decide tableBy memoryBy
+      an-access k =
+          let f = ne-eqb (r .kind) 8 n in
+          let g = ne-eqb (r .kind) 9 k in
+          record { decision = simp (e, f, g, choices); tables = simp (e, f, g, choices); memories = simp (e, f, g, choices) }
 
 -- the whole record
 module _ (board tom : ℕ) (s : State) (table memory : List ℕ) (r : Record) where

@@ -15,6 +15,7 @@ use Rattle.gmch.specs.Map.{mapOf}
 use Rattle.gmch.specs.Mapped.{isEntry, mappedWritten}
 use Rattle.gmch.specs.Ring.{run}
 use Rattle.gmch.specs.Replay.{targetOf, valueAt, tableAfter, memoryAfter, coldStart, coldTable}
+use Rattle.words.specs.Width.{Width}
 use Rattle.gmch.specs.declared.State.{State}
 use Rattle.gmch.specs.declared.Record.{Record}
 use Rattle.gmch.specs.declared.Answer.{Answer}
@@ -54,7 +55,7 @@ Placed x width = ((x ≡ 0xCF8) ⊎ (x < 512)) × (x % 4 + width ≤ 4)
 -- the bytes that an access takes are there
 abbrev pub Reachable : ℕ → ℕ → Target → Type 0
 Reachable tom width (Refused c) = Unit {0}
-Reachable tom width (Memory a) = a + width ≤ tom
+Reachable tom width (Memory a) = Width width × (a + width ≤ tom)
 Reachable tom width (Register x) = Placed x width
 Reachable tom width (Hub a) = Unit {0}
 Reachable tom width (HubError a) = Unit {0}

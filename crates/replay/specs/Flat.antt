@@ -1,10 +1,11 @@
 -- The replay over flat bytes, as the loop takes it: record i of the list, and its answer stored in place.
-use Prim.Native.Nat.{ℕ, zero, suc, _+_, _*_}
+use Prim.Native.Nat.{ℕ, zero, suc, _+_, _*_, _/_}
 use mathlib.Core.List.{List}
-use lib.ListN.{take, drop}
+use mathlib.Core.Path.{_≡_}
+use lib.ListN.{length, take, drop}
 use lib.Seq.{sets}
 use Rattle.gmch.specs.Records.{recordOf}
-use Rattle.gmch.specs.Replay.{oneRecord, answered}
+use Rattle.gmch.specs.Replay.{oneRecord, answered, replay, cut, joined}
 use Rattle.gmch.specs.declared.State.{State}
 use Rattle.gmch.specs.declared.Record.{Record}
 
@@ -23,3 +24,10 @@ replayFrom board tom records zero i s table memory answers = record { state = s;
 replayFrom board tom records (suc n) i s table memory answers =
     let o = oneRecord board tom s table memory (recordAt records i) in
     replayFrom board tom records n (i + 1) (o .state) (o .table) (o .memory) (sets answers (16 * i) (answered o))
+
+-- what a replay from s over flat bytes comes to: the definitions' replay of the records cut into sixteens
+pub record Replays (board : ℕ) (s : State) (table memory records : List ℕ) (s′ : State) (table′ memory′ answers′ : List ℕ) : Type 0 where
+  pub states : s′ ≡ replay board (length memory) s table memory (cut (length records / 16) records) .state
+  pub tables : table′ ≡ replay board (length memory) s table memory (cut (length records / 16) records) .table
+  pub memories : memory′ ≡ replay board (length memory) s table memory (cut (length records / 16) records) .memory
+  pub answers : answers′ ≡ joined (replay board (length memory) s table memory (cut (length records / 16) records) .answers)

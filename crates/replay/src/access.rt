@@ -182,7 +182,7 @@ pub fn act(
     v: u32,
     t: Target,
 ) -> Decided
-    requires { ⌜ Width width × (length (now table) ≡ 16384) × Reachable (length (now memory)) width t ⌝ }
+    requires { ⌜ (length (now table) ≡ 16384) × Reachable (length (now memory)) width t ⌝ }
     ensures { λ r. ⌜ (r ≡ acted s (now (table .entry)) (now (memory .entry)) write width v t) × (now (table .exit) ≡ tableAfter (now (table .entry)) write v t) × (now (memory .exit) ≡ memoryAfter (now (memory .entry)) write width v t) ⌝ }
 {
     match t {

@@ -1,101 +1,51 @@
 use borrow.Author.Needs.{needs}
+use Rattle.replay.specs.Decide.{applied}
 use Rattle.replay.proofs.apply.Statement.{statement}
 use Rattle.replay.proofs.apply.Tie as tie
-use Rattle.replay.proofs.apply.Reads as reads
-use Rattle.replay.proofs.apply.Lts as lts
-use Rattle.config.proofs.cold_start.Reads as cold-start-reads
-use Rattle.config.proofs.register_written.Reads as register-written-reads
-use Rattle.mapped.proofs.written.Reads as written-reads
-use Rattle.replay.proofs.with_error.Reads as with-error-reads
 
--- src/lib.rt:55:25
-enum-told : tie.Need-enum-told
-enum-told c = search needs
-
--- src/lib.rt:56:22
-enum-known-e : tie.Need-enum-known-e
-enum-known-e c = search needs
-
--- src/lib.rt:61:27
-enum-known-e-2 : tie.Need-enum-known-e-2
-enum-known-e-2 c = search needs
-
--- src/lib.rt:61:43
 register-written-requires : tie.Need-register-written-requires
-register-written-requires c κs = ?
+register-written-requires c κs = rw (c .before .e2 .given .1) at (c .before .before .before .pre)
 
--- src/lib.rt:62:23
-enum-known-e-3 : tie.Need-enum-known-e-3
-enum-known-e-3 c = search needs
-
--- src/lib.rt:62:32
-written-requires : tie.Need-written-requires
-written-requires c κs = search needs
-
--- src/lib.rt:64:25
-enum-told-2 : tie.Need-enum-told-2
-enum-told-2 c = search needs
-
--- src/lib.rt:65:39
-element-copy-out-with-error : tie.Need-element-copy-out-with-error
-element-copy-out-with-error c = search needs
-
--- src/lib.rt:65:28
-with-error-requires : tie.Need-with-error-requires
-with-error-requires c κs = search needs
-
--- src/lib.rt:65:13
-element-write-t : tie.Need-element-write-t
-element-write-t c = search needs
-
--- src/lib.rt:68:26
-enum-told-3 : tie.Need-enum-told-3
-enum-told-3 c = search needs
-
--- src/lib.rt:68:26
-cold-start-requires : tie.Need-cold-start-requires
-cold-start-requires c κs = search needs
-
--- src/lib.rt:50:1
 returns : tie.Need-returns
-returns c = ?
+unfolding applied
+returns c = rw (c .enum-told .given .1)
 
--- src/lib.rt:50:1
 returns-2 : tie.Need-returns-2
-returns-2 c = ?
+unfolding applied
+returns-2 c = rw (c .before .e .given .1)
 
--- src/lib.rt:50:1
 returns-3 : tie.Need-returns-3
-returns-3 c = ?
+unfolding applied
+returns-3 c = rw (c .before .before .e2 .given .1) (c .register-written .ensures)
 
--- src/lib.rt:50:1
 returns-4 : tie.Need-returns-4
-returns-4 c = ?
+unfolding applied
+returns-4 c = rw (c .before .before .e3 .given .1) (c .written .ensures)
 
--- src/lib.rt:50:1
 returns-5 : tie.Need-returns-5
-returns-5 c = ?
+unfolding applied
+returns-5 c = rw (c .before .before .enum-told2 .given .1, c .with-error .ensures)
 
--- src/lib.rt:50:1
 returns-6 : tie.Need-returns-6
-returns-6 c = ?
+unfolding applied
+returns-6 c = rw (c .before .enum-told3 .given .1) (c .cold-start .ensures)
 
 pub apply-spec : {M : Type 1} → statement M
 apply-spec =
     tie.close
     (tie.spec
-    enum-told
-    enum-known-e
-    enum-known-e-2
+    (λ c. search needs)
+    (λ c. search needs)
+    (λ c. search needs)
     register-written-requires
-    enum-known-e-3
-    written-requires
-    enum-told-2
-    element-copy-out-with-error
-    with-error-requires
-    element-write-t
-    enum-told-3
-    cold-start-requires
+    (λ c. search needs)
+    (λ c κs. search needs)
+    (λ c. search needs)
+    (λ c. search needs)
+    (λ c κs. search needs)
+    (λ c. search needs)
+    (λ c. search needs)
+    (λ c κs. search needs)
     returns
     returns-2
     returns-3

@@ -8,10 +8,10 @@ use Rattle.replay.proofs.access.act.Statement.{statement}
 use Rattle.replay.proofs.access.act.Tie as tie
 
 in-memory-requires : tie.Need-in-memory-requires
-in-memory-requires c κs = (c .before .before .before .before .before .before .pre .0, rw (c .before .before .t .given .1) at (c .before .before .before .before .before .before .pre .2))
+in-memory-requires c κs = rw (c .before .before .t .given .1) at (c .before .before .before .before .before .before .pre .1)
 
 at-register-requires : tie.Need-at-register-requires
-at-register-requires c κs = rw (c .before .t3 .given .1) at (c .before .before .before .before .before .pre .2)
+at-register-requires c κs = rw (c .before .t3 .given .1) at (c .before .before .before .before .before .pre .1)
 
 returns : tie.Need-returns
 unfolding acted valueAt effectAt tableAfter memoryAfter
