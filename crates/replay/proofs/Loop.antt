@@ -11,8 +11,16 @@ use Rattle.gmch.specs.Records.{recordOf, answerBytes}
 use Rattle.gmch.specs.Mapped.{lineOf}
 use Rattle.gmch.specs.Replay.{Out, oneRecord, answered, Replayed, answering, replay, cut, joined}
 use Rattle.gmch.specs.declared.State.{State}
-use Rattle.replay.specs.Flat.{Flat, recordAt, replayFrom}
+use Rattle.gmch.specs.Config.{withRegs}
+use Rattle.gmch.specs.declared.Regs.{Regs}
+use Rattle.gmch.specs.declared.Record.{Record}
+use Rattle.replay.specs.Decide.{applied, decide, tableBy, memoryBy}
+use Rattle.replay.specs.Flat.{Flat, recordAt, replayFrom, Replays}
+use Rattle.replay.specs.declared.Decided.{Decided}
+use Rattle.replay.specs.declared.Effect.{Effect}
+use Rattle.replay.specs.declared.Effect.the-variants.{Keep, Ring}
 use Rattle.replay.proofs.Bytes.{length-answer}
+use Rattle.replay.proofs.Laws.{decide-is}
 
 length-answered : (o : Out) → length (answered o) ≡ 16
 unfolding answered
@@ -61,3 +69,38 @@ unfolding replayFrom
 next-record board tom records n i s table memory answers o h e =
     let k : n - i ≡ suc (n - (i + 1)) = omega arith in
     rw (k, e) refl
+
+-- the state after the effects that the loop carries out itself
+pub keep-is : (board : ℕ) (s : State) (e : Effect) → e ≡ Keep → s ≡ applied board s e
+unfolding applied
+keep-is board s e h = rw h
+
+pub ring-is : (board : ℕ) (s : State) (e : Effect) (q : Regs) → e ≡ Ring q → withRegs s q ≡ applied board s e
+unfolding applied
+ring-is board s e q h = rw h
+
+-- the same turn, by what the loop's calls give
+pub turn : (board tom : ℕ) (records : List ℕ) (n i : ℕ) (s : State) (table memory answers : List ℕ) (r : Record) (d : Decided) (s′ : State) (table′ memory′ answers′ : List ℕ) (line : ℕ)
+    → i < n → r ≡ recordAt records i → d ≡ decide tom s table memory r → table′ ≡ tableBy tom s table r → memory′ ≡ memoryBy tom s table memory r
+    → s′ ≡ applied board s (d .effect) → line ≡ lineOf (s′ .regs) → answers′ ≡ sets answers (16 * i) (answerBytes (d .answer) line)
+    → replayFrom board tom records (n - (i + 1)) (i + 1) s′ table′ memory′ answers′ ≡ replayFrom board tom records (n - i) i s table memory answers
+unfolding answered
+turn board tom records n i s table memory answers r d s′ table′ memory′ answers′ line h er ed et em es el ea =
+    rw (ea, el, es, em, et, ed, er)
+    (next-record board tom records n i s table memory answers _ h (decide-is board tom s table memory (recordAt records i)))
+
+-- all records done
+pub finished : (board tom : ℕ) (records : List ℕ) (n : ℕ) (s₀ : State) (table₀ memory₀ answers₀ : List ℕ) (i : ℕ) (s : State) (table memory answers : List ℕ)
+    → tom ≡ length memory₀ → n ≡ length records / 16 → 16 * n ≡ length answers₀ → n - i ≡ 0
+    → replayFrom board tom records (n - i) i s table memory answers ≡ replayFrom board tom records n 0 s₀ table₀ memory₀ answers₀
+    → Replays board s₀ table₀ memory₀ records s table memory answers
+unfolding replayFrom
+finished board tom records n s₀ table₀ memory₀ answers₀ i s table memory answers et en el e h =
+    let f = rw e at h in
+    let q = flat-same board tom records n 0 s₀ table₀ memory₀ answers₀ (omega arith) in
+    record {
+      states = rw (← et, ← en) (ap (λ (x : Flat). x .state) f ∙ q .states);
+      tables = rw (← et, ← en) (ap (λ (x : Flat). x .table) f ∙ q .tables);
+      memories = rw (← et, ← en) (ap (λ (x : Flat). x .memory) f ∙ q .memories);
+      answers = rw (← et, ← en) (ap (λ (x : Flat). x .answers) f ∙ q .replies);
+    }

@@ -1,85 +1,70 @@
+-- What is left of the replay gives the whole: one law takes a turn of the loop, one ends it.
+use Prim.Native.Nat.{_≤_, _-_, _*_, _/_, _%_}
+use mathlib.Core.Path.{_≡_, refl, sym, _∙_}
+use mathlib.Core.Logic.{⊎-elim}
+use native.Mathlib.Nat.{sub-zero}
+use native.Mathlib.Omega.{arith}
+use borrow.Author.Needs.{needs}
+use lib.ListN.{length}
+use Rattle.gmch.specs.Map.{Tom}
+use Rattle.replay.specs.Decide.{applied}
+use Rattle.replay.specs.Flat.{replayFrom}
+use Rattle.replay.proofs.Bounds.{decide-sound}
+use Rattle.replay.proofs.Loop.{keep-is, ring-is, turn, finished}
 use Rattle.replay.proofs.replay.Statement.{statement}
 use Rattle.replay.proofs.replay.Tie as tie
-use Rattle.replay.proofs.replay.Reads as reads
-use Rattle.replay.proofs.replay.Lts as lts
-use Rattle.mapped.proofs.line.Reads as line-reads
-use Rattle.replay.proofs.apply.Reads as apply-reads
-use Rattle.replay.proofs.decide.Reads as decide-reads
-use Rattle.replay.proofs.record.put_answer.Reads as put-answer-reads
-use Rattle.replay.proofs.record.record_at.Reads as record-at-reads
 
 abbrev Inv-loop : tie.InvT-loop
-Inv-loop board table₀ memory₀ records answers₀ tom n s₀ i₀ table memory answers s i = ?
+Inv-loop board table₀ memory₀ records answers₀ tom n s₀ i₀ table memory answers s i =
+    (i ≤ n) × (n ≡ length records / 16) × (tom ≡ length memory₀)
+    × (length table ≡ 16384) × (length memory ≡ tom) × (length answers ≡ length records)
+    × (replayFrom board tom records (n - i) i s table memory answers ≡ replayFrom board tom records n 0 s₀ table₀ memory₀ answers₀)
 
 abbrev μ-loop : tie.MeasureT-loop
-μ-loop board table₀ memory₀ records answers₀ tom n s₀ i₀ table memory answers s i = ?
+μ-loop board table₀ memory₀ records answers₀ tom n s₀ i₀ table memory answers s i = n - i
 
--- src/lib.rt:147:15
-cast-tom : tie.Need-cast-tom Inv-loop μ-loop
-cast-tom c = ?
-
--- src/lib.rt:151:5
 loop-holds : tie.Need-loop-holds Inv-loop μ-loop
-loop-holds c = ?
+loop-holds c = (omega arith, refl, refl, c .before .before .before .before .pre .1, refl, c .before .before .before .before .pre .3, rw sub-zero refl)
 
--- src/lib.rt:152:18
-mul-at : tie.Need-mul-at Inv-loop μ-loop
-mul-at c = ?
-
--- src/lib.rt:153:13
-record-at-requires : tie.Need-record-at-requires Inv-loop μ-loop
-record-at-requires c κs = ?
-
--- src/lib.rt:154:13
 decide-requires : tie.Need-decide-requires Inv-loop μ-loop
-decide-requires c κs = ?
+decide-requires c κs =
+    let h = c .before .before .before .before .loop .inv in
+    (rw (h .2) (c .before .before .before .before .before .before .before .before .before .pre .0), h .4, h .3)
 
-enum-told : tie.Need-enum-told Inv-loop μ-loop
-enum-told c = ?
-
--- src/lib.rt:158:26
-enum-known-e : tie.Need-enum-known-e Inv-loop μ-loop
-enum-known-e c = ?
-
--- src/lib.rt:162:17
 apply-requires : tie.Need-apply-requires Inv-loop μ-loop
-apply-requires c κs = ?
+apply-requires c κs =
+    let h = c .before .before .before .before .before .before .before .before .before .before .loop .inv in
+    rw (c .before .before .before .before .before .decide .ensures .0) (decide-sound _ _ _ _ _ (rw (h .2) (c .before .before .before .before .before .before .before .before .before .before .before .before .before .before .before .pre .0)))
 
--- src/lib.rt:165:51
-line-requires : tie.Need-line-requires Inv-loop μ-loop
-line-requires c κs = ?
-
--- src/lib.rt:165:9
-put-answer-requires : tie.Need-put-answer-requires Inv-loop μ-loop
-put-answer-requires c κs = ?
-
--- src/lib.rt:166:13
 add-i : tie.Need-add-i Inv-loop μ-loop
-add-i c = ?
+add-i c = let t = c .before .before .before .before .before .before .before .before .before .before .before .before .before .before .loop-test in let g = c .before .before .before .before .before .before .before .before .before .before .before .before .before .before .before .before .before .before .before .before .good in let f = c .before .before .before .before .before .before .before .before .before .before .before .before .before .before .before .before .before .before .before .before .fits in let s = c .before .before .before .before .before .before .before .before .before .before .before .before .before .before .before .before .before .shared-slice-known in omega arith
 
--- src/lib.rt:151:5
-loop-less : tie.Need-loop-less Inv-loop μ-loop
-loop-less c = ?
-
--- src/lib.rt:151:5
 loop-again : tie.Need-loop-again Inv-loop μ-loop
-loop-again c = ?
+loop-again c =
+    let l = c .before .before .before .before .before .before .before .before .before .before .before .before .before .before .before .loop in
+    let h = l .inv in
+    let d = c .before .before .before .before .before .before .before .before .before .before .decide in
+    let m = c .before .before .before .before .before .match in
+    let p = c .before .before .put-answer in
+    let next : m .s ≡ applied (c .before .before .before .before .before .before .before .before .before .before .before .before .before .before .before .before .before .before .before .before .args .board) (l .s) (d .result .effect) =
+    ⊎-elim (λ w. w .2 ∙ keep-is _ _ _ (w .1 .given .1))
+    (λ k. ⊎-elim (λ w. w .3 ∙ ring-is _ _ _ _ (w .1 .given .1)) (λ w. w .2 ∙ w .1 .ensures) k) (m .came) in
+    let t = c .before .before .before .before .before .before .before .before .before .before .before .before .before .before .loop-test in (
+      omega arith,
+      h .1,
+      h .2,
+      d .kept .1 .1 .0 ∙ h .3,
+      d .kept .1 .1 .1 .0 ∙ h .4,
+      p .kept .0 ∙ h .5,
+      turn _ _ _ _ _ _ _ _ _ _ _ _ _ _ _ _ (c .before .before .before .before .before .before .before .before .before .before .before .before .before .before .loop-test .taken) (c .before .before .before .before .before .before .before .before .before .before .before .before .before .record-at .ensures) (d .ensures .0) (d .ensures .1) (d .ensures .2)
+          next (c .before .before .before .line .ensures) (p .ensures) ∙ h .6,
+    )
 
--- src/lib.rt:136:1
-same-length : tie.Need-same-length Inv-loop μ-loop
-same-length c = ?
-
--- src/lib.rt:136:1
-same-length-2 : tie.Need-same-length-2 Inv-loop μ-loop
-same-length-2 c = ?
-
--- src/lib.rt:136:1
-same-length-3 : tie.Need-same-length-3 Inv-loop μ-loop
-same-length-3 c = ?
-
--- src/lib.rt:136:1
 returns : tie.Need-returns Inv-loop μ-loop
-returns c = ?
+returns c =
+    let h = c .before .loop .inv in
+    let q = c .before .before .before .before .before .before .pre in
+    finished _ _ _ _ _ _ _ _ _ _ _ _ _ (h .2) (h .1) (omega arith) (omega arith) (h .6)
 
 pub replay-spec : {M : Type 1} → statement M
 replay-spec =
@@ -87,20 +72,20 @@ replay-spec =
     (tie.spec
     Inv-loop
     μ-loop
-    cast-tom
+    (λ c. omega arith)
     loop-holds
-    mul-at
-    record-at-requires
+    (λ c. omega arith)
+    (λ c κs. omega arith)
     decide-requires
-    enum-told
-    enum-known-e
+    (λ c. search needs)
+    (λ c. search needs)
     apply-requires
-    line-requires
-    put-answer-requires
+    (λ c κs. search needs)
+    (λ c κs. let t = c .before .before .before .before .before .before .before .before .before .before .before .loop-test in let h = c .before .before .before .before .before .before .before .before .before .before .before .before .loop .inv in omega arith)
     add-i
-    loop-less
+    (λ c. let t = c .before .before .before .before .before .before .before .before .before .before .before .before .before .before .loop-test in let h = c .before .before .before .before .before .before .before .before .before .before .before .before .before .before .before .loop .inv in omega arith)
     loop-again
-    same-length
-    same-length-2
-    same-length-3
+    (λ c. omega arith)
+    (λ c. omega arith)
+    (λ c. omega arith)
     returns)
