@@ -1,0 +1,228 @@
+//! The words of a command line.
+
+use super::failure::Failure;
+use super::files::Source;
+use super::load::Form;
+use super::names;
+use super::numbers;
+use super::style::Colour;
+use std::ffi::{OsStr, OsString};
+
+/// The options of a command.
+pub struct Grammar {
+    pub command: &'static str,
+    /// Options with a value.
+    pub values: &'static [&'static str],
+    /// Options without one.
+    pub switches: &'static [&'static str],
+    /// How many files it takes at most.
+    pub files: usize,
+}
+
+/// What was given.
+#[derive(Debug)]
+pub struct Options {
+    command: &'static str,
+    given: Vec<(&'static str, OsString)>,
+    files: Vec<OsString>,
+}
+
+/// Options that may be given more than once.
+const REPEATED: &[&str] = &["--deny"];
+
+/// Short forms.
+const SHORT: &[(&str, &str)] = &[("-o", "--output")];
+
+impl Grammar {
+    /// Takes the words after the command apart.
+    pub fn parse(&self, words: &[OsString]) -> Result<Options, Failure> {
+        let mut options = Options { command: self.command, given: Vec::new(), files: Vec::new() };
+        let mut words = words.iter();
+        while let Some(word) = words.next() {
+            match word.to_str() {
+                Some("--") => options.files.extend(words.by_ref().cloned()),
+                Some(text) if text.len() > 1 && text.starts_with('-') => {
+                    let (name, value) = self.option(text)?;
+                    let value = if self.switches.contains(&name) {
+                        self.no_value(name, value)?
+                    } else {
+                        self.some_value(name, value.map(OsString::from).or_else(|| words.next().cloned()))?
+                    };
+                    if options.has(name) && !REPEATED.contains(&name) {
+                        return Err(self.usage(format!("{name} is given twice")));
+                    }
+                    options.given.push((name, value));
+                }
+                _ => options.files.push(word.clone()),
+            }
+        }
+        if options.files.iter().any(|file| file.is_empty()) {
+            return Err(self.usage("expected a file, found ''".to_string()));
+        }
+        match options.files.get(self.files) {
+            Some(file) if self.files == 0 => Err(self.usage(format!("expected no file, found '{}'", file.display()))),
+            Some(file) => Err(self.usage(format!("expected one file, found '{}' too", file.display()))),
+            None => Ok(options),
+        }
+    }
+
+    fn no_value(&self, name: &str, value: Option<&str>) -> Result<OsString, Failure> {
+        match value {
+            None => Ok(OsString::new()),
+            Some(_) => Err(self.usage(format!("{name} takes no value"))),
+        }
+    }
+
+    fn some_value(&self, name: &str, value: Option<OsString>) -> Result<OsString, Failure> {
+        value.filter(|value| !value.is_empty()).ok_or_else(|| self.usage(format!("{name} needs a value")))
+    }
+
+    /// The option's full name, and the value after `=`.
+    fn option<'a>(&self, text: &'a str) -> Result<(&'static str, Option<&'a str>), Failure> {
+        let (name, value) = match text.split_once('=') {
+            Some((name, value)) => (name, Some(value)),
+            None => (text, None),
+        };
+        let name = SHORT.iter().find(|(short, _)| *short == name).map_or(name, |(_, long)| *long);
+        let known = self.values.iter().chain(self.switches).find(|known| **known == name);
+        match known {
+            Some(known) => Ok((known, value)),
+            None => Err(self.usage(format!("unknown option '{name}'"))),
+        }
+    }
+
+    fn usage(&self, message: String) -> Failure {
+        usage(self.command, &message)
+    }
+}
+
+/// A wrong command line of this command.
+pub fn usage(command: &str, message: &str) -> Failure {
+    Failure::usage(format!("{message}\nTry 'mitrophel {command} --help'."))
+}
+
+impl Options {
+    pub fn has(&self, name: &str) -> bool {
+        self.value(name).is_some()
+    }
+
+    pub fn value(&self, name: &str) -> Option<&OsStr> {
+        self.given.iter().find(|(own, _)| *own == name).map(|(_, value)| value.as_os_str())
+    }
+
+    /// Every value of an option that may be repeated.
+    pub fn values<'a>(&'a self, name: &'a str) -> impl Iterator<Item = &'a OsStr> {
+        self.given.iter().filter(move |(own, _)| *own == name).map(|(_, value)| value.as_os_str())
+    }
+
+    pub fn usage(&self, message: impl AsRef<str>) -> Failure {
+        usage(self.command, message.as_ref())
+    }
+
+    /// The files, none given being an error where one is needed.
+    pub fn sources(&self) -> Vec<Source> {
+        self.files.iter().map(|file| Source::named(file)).collect()
+    }
+
+    /// The one file that the command needs.
+    pub fn source(&self) -> Result<Source, Failure> {
+        let missing = || self.usage("expected a file ('-' is standard input)");
+        self.files.first().map(|file| Source::named(file)).ok_or_else(missing)
+    }
+
+    /// An option's value as a number of 32 bits.
+    pub fn number(&self, name: &str) -> Result<Option<u32>, Failure> {
+        self.converted(name, |text| numbers::number(text).map_err(|why| why.expected().to_string()))
+    }
+
+    /// An option's value as a number of bytes.
+    pub fn size(&self, name: &str) -> Result<Option<u64>, Failure> {
+        self.converted(name, |text| numbers::size(text).ok_or_else(|| "a size such as 16M".to_string()))
+    }
+
+    /// An option's value as what `convert` makes of it; its error says what was expected.
+    pub fn converted<T>(
+        &self,
+        name: &str,
+        convert: impl FnOnce(&str) -> Result<T, String>,
+    ) -> Result<Option<T>, Failure> {
+        let Some(value) = self.value(name) else { return Ok(None) };
+        let text = value.to_string_lossy();
+        let wrong = |expected| self.usage(format!("{name}: expected {expected}, found '{text}'"));
+        convert(&text).map(Some).map_err(wrong)
+    }
+
+    /// `--board`, 0 where none is named.
+    pub fn board(&self) -> Result<u32, Failure> {
+        let board = self.converted("--board", |text| {
+            let position = names::BOARDS.iter().position(|name| name.eq_ignore_ascii_case(text));
+            position.map(|board| board as u32).ok_or_else(|| "82810 or dc100".to_string())
+        })?;
+        Ok(board.unwrap_or(0))
+    }
+
+    /// `--text` or `--binary`, none where the content is to decide.
+    pub fn form(&self) -> Result<Option<Form>, Failure> {
+        match (self.has("--text"), self.has("--binary")) {
+            (true, true) => Err(self.usage("--text and --binary exclude each other")),
+            (true, false) => Ok(Some(Form::Text)),
+            (false, true) => Ok(Some(Form::Binary)),
+            (false, false) => Ok(None),
+        }
+    }
+
+    /// `--color`
+    pub fn colour(&self) -> Result<Colour, Failure> {
+        let colour = self.converted("--color", |text| match text {
+            "auto" => Ok(Colour::Auto),
+            "always" => Ok(Colour::Always),
+            "never" => Ok(Colour::Never),
+            _ => Err("auto, always or never".to_string()),
+        })?;
+        Ok(colour.unwrap_or(Colour::Auto))
+    }
+}
+
+#[cfg(test)]
+mod tests {
+    use super::*;
+
+    const GRAMMAR: Grammar =
+        Grammar { command: "replay", values: &["--board", "--deny", "--output"], switches: &["--text"], files: 1 };
+
+    fn parse(words: &[&str]) -> Result<Options, String> {
+        let words: Vec<OsString> = words.iter().map(OsString::from).collect();
+        GRAMMAR.parse(&words).map_err(|failure| failure.message)
+    }
+
+    #[test]
+    fn options_stand_before_or_after_the_file_with_or_without_an_equals_sign() {
+        for words in [["--board", "dc100", "-"], ["-", "--board", "dc100"]] {
+            let options = parse(&words).expect("good words");
+            assert_eq!(options.board().expect("a board"), 1);
+            assert_eq!(options.files, ["-"]);
+        }
+        let options = parse(&["--board=DC100", "-o", "x", "--", "--text"]).expect("good words");
+        assert_eq!(options.board().expect("a board"), 1);
+        assert_eq!(options.value("--output"), Some(OsStr::new("x")));
+        assert_eq!(options.files, ["--text"]);
+        assert!(!options.has("--text"));
+        let options = parse(&["--deny=6", "--deny", "7"]).expect("good words");
+        assert_eq!(options.values("--deny").collect::<Vec<_>>(), ["6", "7"]);
+    }
+
+    #[test]
+    fn wrong_words_are_named() {
+        for (words, part) in [
+            (&["--bord", "1"][..], "unknown option '--bord'"),
+            (&["--board"], "--board needs a value"),
+            (&["--text=1"], "--text takes no value"),
+            (&["--board=0", "--board=1"], "--board is given twice"),
+            (&["a", "b"], "expected one file, found 'b' too"),
+        ] {
+            let message = parse(words).expect_err("wrong words");
+            assert!(message.contains(part), "{message}");
+            assert!(message.contains("mitrophel replay --help"), "{message}");
+        }
+    }
+}

@@ -1,0 +1,376 @@
+//! `audit`: many lists, call after call, and how often each code and target was answered.
+
+use super::args::{Grammar, Options};
+use super::complain;
+use super::failure::{Failure, Status};
+use super::files::Source;
+use super::load::{self, Form, List, Memory, FORM_BYTES};
+use super::names;
+use super::numbers;
+use super::pair::{self, Pair};
+use super::progress::Progress;
+use super::style::Style;
+use mitrophel::record::{self, MAX_RECORDS, RECORD_BYTES};
+use mitrophel::{Answer, Refusal, Target};
+use std::ffi::OsString;
+use std::io::{self, Read, Write};
+
+const GRAMMAR: Grammar = Grammar {
+    command: "audit",
+    values: &["--deny", "--board", "--memory", "--image", "--color"],
+    switches: &["--compare", "--text", "--binary"],
+    files: usize::MAX,
+};
+
+/// `mitrophel audit`
+pub fn run(words: &[OsString]) -> Result<Status, Failure> {
+    let options = GRAMMAR.parse(words)?;
+    options.source()?;
+    let sources = options.sources();
+    let image_is_standard = options.value("--image").is_some_and(|file| file == "-");
+    if sources.iter().filter(|source| **source == Source::Standard).count() + usize::from(image_is_standard) > 1 {
+        return Err(options.usage("standard input can be read only once"));
+    }
+    let style = Style::new(options.colour()?);
+    let audit = Audit {
+        board: options.board()?,
+        form: options.form()?,
+        deny: denied(&options)?,
+        compare: options.has("--compare"),
+        memory: Memory::given(&options)?,
+    };
+    let (tally, status) = audit.files(&sources)?;
+    if tally.files == 0 {
+        return Ok(status);
+    }
+    let mut out = io::BufWriter::new(io::stdout().lock());
+    tally.print(&mut out, style, &audit.deny)?;
+    out.flush()?;
+    Ok(status)
+}
+
+/// The refusals that `--deny` names.
+fn denied(options: &Options) -> Result<Vec<Refusal>, Failure> {
+    let mut denied = Vec::new();
+    for value in options.values("--deny") {
+        let value = value.to_string_lossy();
+        for name in value.split(',') {
+            if name.eq_ignore_ascii_case("all") {
+                denied.extend(names::REFUSALS.map(|(refusal, _)| refusal));
+            } else {
+                denied.push(names::refusal_named(name).ok_or_else(|| unknown_kind(options, name))?);
+            }
+        }
+    }
+    Ok(denied)
+}
+
+fn unknown_kind(options: &Options, name: &str) -> Failure {
+    let known = names::REFUSALS.map(|(refusal, name)| format!("{} {name}", refusal.code())).join(", ");
+    options.usage(format!("--deny: expected 'all' or one of {known}, found '{name}'"))
+}
+
+/// How every list is replayed.
+struct Audit {
+    board: u32,
+    memory: Memory,
+    form: Option<Form>,
+    deny: Vec<Refusal>,
+    compare: bool,
+}
+
+impl Audit {
+    /// Replays every file. One that fails is told and left out.
+    fn files(&self, sources: &[Source]) -> Result<(Tally, Status), Failure> {
+        let lengths: Option<Vec<u64>> = sources.iter().map(Source::length).collect();
+        let mut progress = Progress::new(lengths.map(|lengths| lengths.iter().sum()));
+        let mut total = Tally::default();
+        let mut failed = None;
+        for source in sources {
+            match self.file(source, &mut progress) {
+                Ok(tally) => {
+                    progress.clear();
+                    tally.tell_denied(&source.name());
+                    total.add(&tally);
+                }
+                Err(failure) if matches!(failure.status, Status::Input | Status::File) => {
+                    progress.clear();
+                    failure.tell();
+                    total.left_out += 1;
+                    failed = Some(failure.status);
+                }
+                Err(failure) => {
+                    progress.clear();
+                    return Err(failure);
+                }
+            }
+        }
+        progress.finish();
+        let status = if total.denied != 0 { Status::Denied } else { failed.unwrap_or(Status::Done) };
+        Ok((total, status))
+    }
+
+    /// Replays one file from a cold start on fresh memory.
+    fn file(&self, source: &Source, progress: &mut Progress) -> Result<Tally, Failure> {
+        let mut calls = Calls::open(source, self.form)?;
+        let mut engine = Engine::new(self);
+        let mut tally = Tally { files: 1, ..Tally::default() };
+        while let Some(records) = calls.next()? {
+            let answers = engine.replay(&records).map_err(|failure| failure.in_file(&source.name()))?;
+            for (index, answer) in record::decode_answers(&answers).enumerate() {
+                tally.count(&answer);
+                if answer.refusal().is_some_and(|refusal| self.deny.contains(&refusal)) {
+                    tally.deny(&answer, || calls.place(index));
+                }
+            }
+            tally.calls += 1;
+            progress.add(calls.taken(&records), records.len() as u64 / RECORD_BYTES as u64);
+        }
+        Ok(tally)
+    }
+}
+
+/// What replays: the proved call alone, or with the reference beside it.
+enum Engine {
+    Alone { board: u32, memory: Vec<u8> },
+    Compared(Pair),
+}
+
+impl Engine {
+    fn new(audit: &Audit) -> Engine {
+        match audit.compare {
+            true => Engine::Compared(Pair::new(audit.board, [audit.memory.fresh(), audit.memory.fresh()])),
+            false => Engine::Alone { board: audit.board, memory: audit.memory.fresh() },
+        }
+    }
+
+    fn replay(&mut self, records: &[u8]) -> Result<Vec<u8>, Failure> {
+        match self {
+            Engine::Compared(pair) => pair.replay(records, |_| Ok(())),
+            Engine::Alone { board, memory } => {
+                let mut answers = vec![0; records.len()];
+                mitrophel::replay(*board, memory, records, &mut answers)
+                    .map_err(|refused| Failure::disagreement(format!("the call refused good arguments: {refused}")))?;
+                Ok(answers)
+            }
+        }
+    }
+}
+
+/// The calls of one file, read as they are needed.
+struct Calls {
+    source: Source,
+    input: Box<dyn Read>,
+    /// Bytes read and not yet given out.
+    buffer: Vec<u8>,
+    /// There is nothing more to read.
+    ended: bool,
+    /// There is nothing more to give out.
+    finished: bool,
+    /// Records given out in the calls before the last one, and in all.
+    before: u64,
+    given: u64,
+    /// A text trace, which is read whole.
+    list: Option<List>,
+    /// The bytes of a text trace.
+    text: u64,
+}
+
+impl Calls {
+    fn open(source: &Source, form: Option<Form>) -> Result<Calls, Failure> {
+        let mut calls = Calls {
+            source: source.clone(),
+            input: source.open()?,
+            buffer: Vec::new(),
+            ended: false,
+            finished: false,
+            before: 0,
+            given: 0,
+            list: None,
+            text: 0,
+        };
+        calls.fill(FORM_BYTES)?;
+        if form.unwrap_or_else(|| Form::of(&calls.buffer)) == Form::Text {
+            calls.fill(usize::MAX)?;
+            calls.text = calls.buffer.len() as u64;
+            let list = List::text(source.name(), &calls.buffer)?;
+            calls.buffer = list.records.clone();
+            calls.list = Some(list);
+        }
+        Ok(calls)
+    }
+
+    /// Reads until the buffer has so many bytes, or to the end.
+    fn fill(&mut self, length: usize) -> Result<(), Failure> {
+        let missing = length.saturating_sub(self.buffer.len()) as u64;
+        if !self.ended && missing != 0 {
+            let read = self.input.by_ref().take(missing).read_to_end(&mut self.buffer);
+            self.ended = (read.map_err(|error| self.source.failure(&error))? as u64) < missing;
+        }
+        Ok(())
+    }
+
+    /// The records of the next call; none at the end. An empty file is one call without records.
+    fn next(&mut self) -> Result<Option<Vec<u8>>, Failure> {
+        if self.finished {
+            return Ok(None);
+        }
+        self.fill((MAX_RECORDS + 1) * RECORD_BYTES)?;
+        if self.ended {
+            let length = self.given * RECORD_BYTES as u64 + self.buffer.len() as u64;
+            load::whole_records(&self.source.name(), length)?;
+        }
+        self.before = self.given;
+        let length = pair::first_call(&self.buffer).ok_or_else(|| load::uncut(&self.place(0)))?;
+        let rest = self.buffer.split_off(length);
+        let records = std::mem::replace(&mut self.buffer, rest);
+        self.given += (length / RECORD_BYTES) as u64;
+        self.finished = self.ended && self.buffer.is_empty();
+        Ok(Some(records))
+    }
+
+    /// The place of a record of the last call.
+    fn place(&self, index: usize) -> String {
+        let index = self.before as usize + index;
+        match &self.list {
+            Some(list) => list.place(index),
+            None => format!("{}: record {}", self.source.name(), numbers::grouped(index as u64 + 1)),
+        }
+    }
+
+    /// The bytes of the file that these records of the last call stand for.
+    fn taken(&self, records: &[u8]) -> u64 {
+        match &self.list {
+            None => records.len() as u64,
+            Some(list) if list.records.is_empty() => self.text,
+            Some(list) => (self.text as f64 * records.len() as f64 / list.records.len() as f64) as u64,
+        }
+    }
+}
+
+/// How often each code and target was answered.
+struct Tally {
+    files: u64,
+    left_out: u64,
+    calls: u64,
+    records: u64,
+    /// Completed steps of parser runs.
+    steps: u64,
+    codes: [u64; 256],
+    targets: [u64; 256],
+    denied: u64,
+    /// The first denied refusal of a file.
+    first_denied: Option<String>,
+}
+
+impl Default for Tally {
+    fn default() -> Tally {
+        Tally {
+            files: 0,
+            left_out: 0,
+            calls: 0,
+            records: 0,
+            steps: 0,
+            codes: [0; 256],
+            targets: [0; 256],
+            denied: 0,
+            first_denied: None,
+        }
+    }
+}
+
+impl Tally {
+    fn count(&mut self, answer: &Answer) {
+        self.records += 1;
+        self.steps += u64::from(answer.count);
+        self.codes[usize::from(answer.code)] += 1;
+        self.targets[usize::from(answer.target)] += 1;
+    }
+
+    fn deny(&mut self, answer: &Answer, place: impl FnOnce() -> String) {
+        self.denied += 1;
+        if self.first_denied.is_none() {
+            let refusal = answer.refusal().map(|refusal| refusal.to_string()).unwrap_or_default();
+            self.first_denied = Some(format!("{}: {refusal}", place()));
+        }
+    }
+
+    /// Names the first denied refusal of a file.
+    fn tell_denied(&self, name: &str) {
+        if let Some(first) = &self.first_denied {
+            complain(&format!("mitrophel: {first} (denied)"));
+            if self.denied > 1 {
+                let more = numbers::counted(self.denied - 1, "more denied refusal");
+                complain(&format!("mitrophel: {name}: {more}"));
+            }
+        }
+    }
+
+    fn add(&mut self, other: &Tally) {
+        self.files += other.files;
+        self.calls += other.calls;
+        self.records += other.records;
+        self.steps += other.steps;
+        self.denied += other.denied;
+        let pairs = self.codes.iter_mut().zip(&other.codes);
+        for (own, other) in pairs.chain(self.targets.iter_mut().zip(&other.targets)) {
+            *own += other;
+        }
+    }
+
+    fn print(&self, out: &mut impl Write, style: Style, deny: &[Refusal]) -> io::Result<()> {
+        write!(out, "{}, ", numbers::counted(self.files, "file"))?;
+        write!(out, "{} in {}, ", numbers::counted(self.records, "record"), numbers::counted(self.calls, "call"))?;
+        writeln!(out, "{}", numbers::counted(self.steps, "parser step"))?;
+        if self.left_out != 0 {
+            let left_out = format!("{} left out: unreadable or malformed", numbers::counted(self.left_out, "file"));
+            writeln!(out, "{}", style.bad(&left_out))?;
+        }
+        self.print_codes(out, style, deny)?;
+        self.print_targets(out, style)
+    }
+
+    fn print_codes(&self, out: &mut impl Write, style: Style, deny: &[Refusal]) -> io::Result<()> {
+        writeln!(out, "\n{}", style.bold(&format!("  code  {:<24} {:>16}", "answered or refused", "records")))?;
+        for code in 0..=u8::MAX {
+            let count = self.codes[usize::from(code)];
+            let known = names::REFUSALS.iter().find(|(refusal, _)| refusal.code() == code);
+            let name = match (code, known) {
+                (0, _) => "answered",
+                (_, Some((_, name))) => name,
+                _ if count == 0 => continue,
+                _ => "no code of document 01",
+            };
+            let denied = known.is_some_and(|(refusal, _)| deny.contains(refusal));
+            let mark = if denied { "  denied" } else { "" };
+            let line = format!("  {code:>4}  {name:<24} {:>16}{mark}", numbers::grouped(count));
+            writeln!(out, "{}", painted(style, &line, count, denied))?;
+        }
+        Ok(())
+    }
+
+    fn print_targets(&self, out: &mut impl Write, style: Style) -> io::Result<()> {
+        writeln!(out, "\n{}", style.bold(&format!("target  {:<24} {:>16}", "reached", "records")))?;
+        for target in 0..=u8::MAX {
+            let count = self.targets[usize::from(target)];
+            let name = match Target::from_number(target) {
+                Some(Target::None) => "refusal, run or reset".to_string(),
+                Some(target) => target.to_string(),
+                None if count == 0 => continue,
+                None => "no target of document 01".to_string(),
+            };
+            let line = format!("{target:>6}  {name:<24} {:>16}", numbers::grouped(count));
+            writeln!(out, "{}", painted(style, &line, count, false))?;
+        }
+        Ok(())
+    }
+}
+
+/// A line of the table: what never happened is dim, what is denied and happened stands out.
+fn painted(style: Style, line: &str, count: u64, denied: bool) -> String {
+    match (count, denied) {
+        (0, _) => style.dim(line),
+        (_, true) => style.bad(line),
+        (_, false) => line.to_string(),
+    }
+}

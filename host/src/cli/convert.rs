@@ -1,0 +1,38 @@
+//! `asm` and `disasm`.
+
+use super::args::Grammar;
+use super::failure::{Failure, Status};
+use super::files::{self, Sink};
+use super::listing::Lister;
+use super::load::List;
+use std::ffi::OsString;
+use std::io::{self, IsTerminal};
+
+/// `mitrophel asm`
+pub fn asm(words: &[OsString]) -> Result<Status, Failure> {
+    let grammar = Grammar { command: "asm", values: &["--output"], switches: &[], files: 1 };
+    let options = grammar.parse(words)?;
+    let source = options.source()?;
+    let sink = options.value("--output").map_or(Sink::Standard, Sink::named);
+    if sink == Sink::Standard && io::stdout().is_terminal() {
+        return Err(options.usage("records are no text for a terminal: give --output FILE, or pipe them"));
+    }
+    let list = List::text(source.name(), &source.read()?)?;
+    files::save(&sink, &list.records)?;
+    Ok(Status::Done)
+}
+
+/// `mitrophel disasm`
+pub fn disasm(words: &[OsString]) -> Result<Status, Failure> {
+    let switches = &["--no-macros", "--no-comments"];
+    let grammar = Grammar { command: "disasm", values: &["--output"], switches, files: 1 };
+    let options = grammar.parse(words)?;
+    let source = options.source()?;
+    let sink = options.value("--output").map_or(Sink::Standard, Sink::named);
+    let list = List::binary(source.name(), source.read()?)?;
+    let lister = Lister { macros: !options.has("--no-macros"), comments: !options.has("--no-comments") };
+    let mut text = Vec::new();
+    lister.write(&list.records, &mut text)?;
+    files::save(&sink, &text)?;
+    Ok(Status::Done)
+}

@@ -1,0 +1,51 @@
+//! What the names of a trace stand for, record after record.
+//!
+//! `WINDOW` and the memory-mapped registers move with GMADR and MMADR. A reference hub is given every
+//! record that can change those, so that the names follow document 01 to the letter: a write to device
+//! 1 while graphics is off, say, changes nothing. Writing and reading a trace follow the same records,
+//! which is why the one undoes the other.
+
+use super::names::Bases;
+use mitrophel::reference::{Hub, Table, Unobserved, TABLE_WORDS};
+use mitrophel::{faults::Faultless, Kind, Record};
+
+/// What the followed hub stands on. No name depends on the board or on the size of its memory.
+pub struct Ground {
+    memory: Vec<u8>,
+    table: Box<Table>,
+}
+
+impl Ground {
+    pub fn new() -> Ground {
+        Ground { memory: vec![0; 8 << 20], table: Box::new([0; TABLE_WORDS]) }
+    }
+}
+
+/// A hub that is given configuration accesses and resets only.
+pub struct Follower<'m> {
+    hub: Hub<'m>,
+}
+
+impl<'m> Follower<'m> {
+    pub fn new(ground: &'m mut Ground) -> Follower<'m> {
+        let hub = Hub::new(0, &mut ground.memory, &mut ground.table, Unobserved, Faultless);
+        Follower { hub: hub.expect("board 0 with 8 MiB is a board") }
+    }
+
+    /// What the names stand for at the next record.
+    pub fn bases(&self) -> Bases {
+        Bases::of(&self.hub)
+    }
+
+    /// The hub, whose configuration registers are right but for SMRAM's error bit.
+    pub fn hub(&self) -> &Hub<'m> {
+        &self.hub
+    }
+
+    /// Takes note of a record.
+    pub fn note(&mut self, record: &Record) {
+        if matches!(record.kind(), Some(Kind::IoWrite | Kind::Reset)) {
+            self.hub.answer(record);
+        }
+    }
+}

@@ -1,0 +1,188 @@
+//! What `--help` says.
+
+/// Every command with its line in the overview and its help.
+pub const COMMANDS: [(&str, &str, &str); 6] = [
+    ("replay", "replay records on a board and explain each answer", REPLAY),
+    ("asm", "turn a text trace into records", ASM),
+    ("disasm", "turn records into a text trace", DISASM),
+    ("map", "show where each address goes", MAP),
+    ("audit", "replay many lists and count the refusals", AUDIT),
+    ("demo", "a desk, its lobby picture and three earlier faults", DEMO),
+];
+
+/// The help of a command.
+pub fn of(command: &str) -> Option<&'static str> {
+    COMMANDS.iter().find(|(name, _, _)| *name == command).map(|(_, _, help)| *help)
+}
+
+/// The help of the program.
+pub fn overview() -> String {
+    let commands: Vec<String> = COMMANDS.iter().map(|(name, line, _)| format!("  {name:<8} {line}\n")).collect();
+    format!("{OVERVIEW}{}{GENERAL}", commands.concat())
+}
+
+const OVERVIEW: &str = "\
+Usage: mitrophel COMMAND [OPTION].. [FILE]..
+A machine-proved model of Intel's 82810 graphics hub: record lists written,
+read, replayed and explained.
+
+";
+
+const GENERAL: &str = "
+'mitrophel COMMAND --help' tells more, with an example; 'man mitrophel' has it
+all. 'mitrophel --version' tells where the answers come from.
+
+Numbers are 4096, 0x1000 or 1000h, sizes 16M; FILE '-' is standard input.
+Exit status: 0 done, 1 audit saw a denied refusal, 2 wrong command line,
+3 malformed input, 4 a file cannot be read or written, 5 the proved call and
+the reference disagree, 141 the reader of the output went away.
+
+Start with:
+  mitrophel demo
+";
+
+const REPLAY: &str = "\
+Usage: mitrophel replay [OPTION].. FILE
+Replay the records of FILE from a cold start, by the proved call, and print
+each with its answer: what was accessed, where it went, by which rule, or the
+refusal and why. FILE is a text trace or the binary form, told apart by its
+content; '-' is standard input.
+
+  --board NAME      82810 (default) or dc100
+  --memory SIZE     main memory: a multiple of 8M, 8M to 512M
+                    (default: the image's length, else 8M)
+  --image FILE      memory at the start, from address 0; the rest is zero
+  --answers FILE    write the answers, 16 bytes each, and print nothing
+  --dump FILE       write memory as it is afterwards
+  --text, --binary  take FILE for a text trace, or for the binary form,
+                    whatever its content
+  --color WHEN      auto (default), always or never
+
+The reasons come from a second replay, in ordinary Rust, beside the proved
+call. Should the two ever disagree, the difference is told, nothing is written,
+and the exit status is 5.
+
+A call takes 65,535 records and is a cold start. A longer list is replayed in
+several calls on the same memory, where that keeps its meaning: it is cut in
+front of reset records, which leave what a cold start finds. A list that cannot
+be cut so is refused.
+
+Example: key memory is locked; a guest's read of it goes to the hub.
+  printf 'config write dev0.SMRAM BEh\\nread4 700000h\\n' | mitrophel replay -
+";
+
+const ASM: &str = "\
+Usage: mitrophel asm [OPTION].. FILE
+Turn the text trace FILE ('-': standard input) into records of 16 bytes.
+
+  -o, --output FILE  where the records go
+                     (default: standard output, if it is no terminal)
+
+One access a line; '#' starts a comment. N is the width: 1, 2 or 4. Numbers are
+4096, 0x1000 or 1000h.
+  inN PORT               outN PORT DATA            I/O
+  readN PLACE            writeN PLACE DATA         processor data
+  fetchN PLACE                                     processor code
+  smm readN PLACE        smm fetchN, smm writeN    in management mode
+  master readN PLACE     master writeN PLACE DATA  hub masters
+  run BUDGET             reset                     parser run, reset
+  raw B0 B1 .. B15                                 16 bytes in hexadecimal
+Several records:
+  config readN REGISTER  config writeN REGISTER DATA   CF8h, then CFCh
+  entry I PAGE           entries I..J PAGE             valid table entries
+
+PORT      a number, CONFIG_ADDRESS or CONFIG_DATA+n
+PLACE     a number, WINDOW+n, MMIO+n, GTT[i], FENCE0 to FENCE7, PGTBL_CTL,
+          LP_RING_TAIL, LP_RING_HEAD, LP_RING_START, LP_RING_LENGTH, IER, IIR,
+          IMR or ISR; a register's name needs no width. The names stand at
+          MMADR and GMADR as the records before have left them.
+REGISTER  dev0.SMRAM, dev1.GMADR and so on, by the datasheet's symbols, which
+          need no width, or dev0.70h
+
+Example:
+  printf 'config write dev0.SMRAM BEh\\n' | mitrophel asm - | xxd
+";
+
+const DISASM: &str = "\
+Usage: mitrophel disasm [OPTION].. FILE
+Turn the records of FILE ('-': standard input) into a text trace. 'mitrophel
+asm' gives the same bytes back for every list; a record that breaks the layout
+becomes a line of raw bytes.
+
+  -o, --output FILE  where the trace goes (default: standard output)
+      --no-macros    one line for each record
+      --no-comments  statements only
+
+Example:
+  mitrophel asm desk.trace -o desk.rec && mitrophel disasm desk.rec
+";
+
+const MAP: &str = "\
+Usage: mitrophel map [OPTION].. [FILE]
+Show the address map in force: where each address goes for the processor, in
+management mode, for hub masters, and for graphics through the translation
+table; which ranges are protected. It is the map of SMRAM as given, or as the
+trace or records of FILE leave it ('-': standard input).
+
+  --board NAME         82810 (default) or dc100
+  --memory SIZE        main memory: a multiple of 8M, 8M to 512M
+                       (default: the image's length, else 8M)
+  --image FILE         memory at the start
+  --svg FILE           draw the map as a picture too ('-': the picture alone)
+  --color WHEN         auto (default), always or never
+With FILE:
+  --text, --binary     take it for a text trace, or for the binary form
+Without FILE:
+  --smram NUMBER       SMRAM as written (default 0)
+  --window ADDRESS     GMADR, and device 1's memory enable
+  --registers ADDRESS  MMADR, and device 1's memory enable
+  --window-size SIZE   32M or 64M (default)
+
+Example:
+  mitrophel map --smram BEh --window C0000000h --svg map.svg
+";
+
+const AUDIT: &str = "\
+Usage: mitrophel audit [OPTION].. FILE..
+The night audit: replay every FILE ('-': standard input), call after call, each
+on fresh memory, and print how often each code and each target was answered. A
+list of more than 65,535 records is cut in front of reset records, as
+'mitrophel replay --help' says. A bar shows the progress if standard error is a
+terminal.
+
+  --deny KIND       exit with status 1 if a refusal of this kind was seen;
+                    several with commas, or by giving the option again
+  --compare         replay by the reference too, and compare every answer and
+                    all of memory
+  --board NAME      82810 (default) or dc100
+  --memory SIZE     main memory: a multiple of 8M, 8M to 512M
+                    (default: the image's length, else 8M)
+  --image FILE      memory at the start of every FILE
+  --text, --binary  take every FILE for a text trace, or for the binary form
+  --color WHEN      auto (default), always or never
+
+Kinds, by number or name: 2 width, 3 translation-off, 4 not-valid, 5 type,
+6 protected, 7 above-memory, 8 outside-window, 9 fence, 10 not-exact, 11 ring,
+12 instruction, 13 layout; 'all' is every kind.
+
+A FILE that cannot be read or is malformed is told and left out of the count;
+the others are replayed, and the exit status is 3 or 4 unless a denied refusal
+was seen.
+
+Example:
+  mitrophel audit --deny protected,layout night/*.rec
+";
+
+const DEMO: &str = "\
+Usage: mitrophel demo [OPTION]..
+On an embedded sample: a desk is set up, management mode keeps the key, the
+lobby picture is drawn through the window and read from memory, the faults of
+three earlier models are tried, and all is replayed again with another key.
+Every outcome is checked.
+
+  --ascii       draw the picture in ASCII instead of half blocks
+  --color WHEN  auto (default), always or never
+
+Example:
+  mitrophel demo | less
+";

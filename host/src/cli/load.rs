@@ -1,0 +1,204 @@
+//! Record lists and memories as commands take them.
+
+use super::args::Options;
+use super::failure::Failure;
+use super::files::Source;
+use super::{numbers, pair, trace};
+use mitrophel::record::{MAX_RECORDS, RECORD_BYTES};
+use std::ops::Range;
+
+/// The two forms of a list.
+#[derive(Clone, Copy, Debug, PartialEq, Eq)]
+pub enum Form {
+    Text,
+    Binary,
+}
+
+/// As much of a list as its form is told by.
+pub const FORM_BYTES: usize = 64 << 10;
+
+impl Form {
+    /// Told by the first 64 KiB: a text trace has no control characters but tabs and line ends. A good
+    /// record has a zero byte, so a list with one good record there is never taken for a text.
+    pub fn of(bytes: &[u8]) -> Form {
+        let control = |byte: &u8| (*byte < 0x20 && !b"\t\n\r".contains(byte)) || *byte == 0x7F;
+        let start = &bytes[..bytes.len().min(FORM_BYTES)];
+        if start.iter().any(control) {
+            Form::Binary
+        } else {
+            Form::Text
+        }
+    }
+}
+
+/// A list of records and where each came from.
+pub struct List {
+    name: String,
+    pub records: Vec<u8>,
+    /// The line of each record of a text trace.
+    lines: Option<Vec<u32>>,
+}
+
+impl List {
+    /// Reads a list. Its form is told by its content unless it is given.
+    pub fn read(source: &Source, form: Option<Form>) -> Result<List, Failure> {
+        let bytes = source.read()?;
+        match form.unwrap_or_else(|| Form::of(&bytes)) {
+            Form::Text => List::text(source.name(), &bytes),
+            Form::Binary => List::binary(source.name(), bytes),
+        }
+    }
+
+    /// A text trace.
+    pub fn text(name: String, bytes: &[u8]) -> Result<List, Failure> {
+        let text = String::from_utf8_lossy(bytes);
+        let assembled =
+            trace::assemble(&text).map_err(|errors| Failure::trace(trace::report(&name, &text, &errors)))?;
+        Ok(List { name, records: assembled.records, lines: Some(assembled.lines) })
+    }
+
+    pub fn binary(name: String, records: Vec<u8>) -> Result<List, Failure> {
+        whole_records(&name, records.len() as u64)?;
+        Ok(List { name, records, lines: None })
+    }
+
+    /// The place of a record, from 0: `FILE:LINE` or `FILE: record 3`.
+    pub fn place(&self, index: usize) -> String {
+        match self.lines.as_ref().and_then(|lines| lines.get(index)) {
+            Some(line) => format!("{}:{line}", self.name),
+            None => format!("{}: record {}", self.name, numbers::grouped(index as u64 + 1)),
+        }
+    }
+
+    /// The bytes of each call that the list needs.
+    pub fn calls(&self) -> Result<Vec<Range<usize>>, Failure> {
+        let mut calls = Vec::new();
+        let mut from = 0;
+        loop {
+            let length = pair::first_call(&self.records[from..]);
+            let length = length.ok_or_else(|| uncut(&self.place(from / RECORD_BYTES)))?;
+            calls.push(from..from + length);
+            from += length;
+            if from == self.records.len() {
+                return Ok(calls);
+            }
+        }
+    }
+}
+
+/// A list that no reset divides into calls.
+pub fn uncut(place: &str) -> Failure {
+    let most = numbers::grouped(MAX_RECORDS as u64);
+    Failure::input(format!(
+        "{place}: a call takes {most} records and starts cold, so a longer list is cut in front of reset records; \
+         expected one among the {most} records after this one, found none"
+    ))
+}
+
+/// Asks that a binary list ends with a whole record.
+pub fn whole_records(name: &str, length: u64) -> Result<(), Failure> {
+    let rest = length % RECORD_BYTES as u64;
+    if rest == 0 {
+        return Ok(());
+    }
+    Err(Failure::input(format!(
+        "{name}: byte {}: expected a whole number of 16-byte records, found {} after {} (a text trace has no \
+         control characters)",
+        numbers::grouped(length - rest),
+        numbers::counted(rest, "byte"),
+        numbers::counted(length / RECORD_BYTES as u64, "record"),
+    )))
+}
+
+/// The memory that a call is lent.
+pub struct Memory {
+    length: usize,
+    image: Vec<u8>,
+}
+
+/// "a multiple of 8 MiB, 8 to 512 MiB"
+fn is_memory_length(length: u64) -> bool {
+    length.is_multiple_of(8 << 20) && (8 << 20..=512 << 20).contains(&length)
+}
+
+const LENGTHS: &str = "a multiple of 8M from 8M to 512M";
+
+impl Memory {
+    /// `--memory` and `--image`: a length, by default the image's or 8M, and what stands at address 0.
+    pub fn given(options: &Options) -> Result<Memory, Failure> {
+        let length = options.size("--memory")?;
+        if let Some(text) = options.value("--memory").filter(|_| !length.is_none_or(is_memory_length)) {
+            return Err(options.usage(format!("--memory: expected {LENGTHS}, found '{}'", text.display())));
+        }
+        let Some(file) = options.value("--image") else {
+            return Ok(Memory { length: length.unwrap_or(8 << 20) as usize, image: Vec::new() });
+        };
+        let source = Source::named(file);
+        let image = source.read()?;
+        let own = image.len() as u64;
+        let found = || format!("{}: expected an image of", source.name());
+        match length {
+            Some(length) if own > length => {
+                Err(Failure::input(format!("{} at most {length} bytes, the memory's length, found {own}", found())))
+            }
+            Some(length) => Ok(Memory { length: length as usize, image }),
+            None if is_memory_length(own) => Ok(Memory { length: image.len(), image }),
+            None => Err(Failure::input(format!(
+                "{} {LENGTHS}, found {own} bytes; with --memory a shorter one stands at address 0",
+                found()
+            ))),
+        }
+    }
+
+    /// A memory of zeros; `length` must be one that a call takes.
+    #[cfg(test)]
+    pub fn zeros(length: usize) -> Memory {
+        Memory { length, image: Vec::new() }
+    }
+
+    /// A memory as it is at the start.
+    pub fn fresh(&self) -> Vec<u8> {
+        let mut memory = vec![0; self.length];
+        memory[..self.image.len()].copy_from_slice(&self.image);
+        memory
+    }
+
+    pub fn length(&self) -> usize {
+        self.length
+    }
+}
+
+#[cfg(test)]
+mod tests {
+    use super::*;
+    use mitrophel::{record, Record};
+
+    #[test]
+    fn a_list_with_a_good_record_is_binary_and_a_trace_is_text() {
+        assert_eq!(Form::of(b"# a comment\r\n\tread4 1000h\n"), Form::Text);
+        assert_eq!(Form::of("# K\u{e4}rtchen\n".as_bytes()), Form::Text);
+        assert_eq!(Form::of(b""), Form::Text);
+        for record in [Record::reset(), Record::run(0x2020_2020), Record::write(0x2020_2020, 32, 0x2020_2020, false)] {
+            let mut bytes = vec![b'A'; 160];
+            bytes.extend(record::encode(&[record]));
+            assert_eq!(Form::of(&bytes), Form::Binary);
+        }
+    }
+
+    fn list(length: usize, resets: &[usize]) -> List {
+        let mut records = vec![Record::read(0, 4, false); length];
+        for &at in resets {
+            records[at] = Record::reset();
+        }
+        List { name: "night.rec".to_string(), records: record::encode(&records), lines: None }
+    }
+
+    #[test]
+    fn a_long_list_is_cut_at_resets_or_refused_with_its_place() {
+        assert_eq!(list(0, &[]).calls().expect("one call").len(), 1);
+        let calls = list(150_000, &[10, 60_000, 65_000, 120_000]).calls().expect("three calls");
+        assert_eq!(calls, [0..65_000 * 16, 65_000 * 16..120_000 * 16, 120_000 * 16..150_000 * 16]);
+        let failure = list(150_000, &[10, 60_000, 130_000]).calls().expect_err("no reset from 60,001 to 125,535");
+        assert!(failure.message.starts_with("night.rec: record 60,001: "), "{}", failure.message);
+    }
+}

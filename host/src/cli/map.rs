@@ -1,0 +1,176 @@
+//! `map`: where each address goes, as a table and as a picture.
+
+use super::args::{Grammar, Options};
+use super::failure::{Failure, Status};
+use super::files::{self, Sink, Source};
+use super::load::{List, Memory};
+use super::style::Style;
+use super::survey::{Cell, Class, Map, Mapping, Reach, COLUMNS};
+use super::{names, numbers, svg, words};
+use mitrophel::record;
+use mitrophel::reference::Smram;
+use mitrophel::Record;
+use std::ffi::OsString;
+use std::io::{self, Write};
+
+const GRAMMAR: Grammar = Grammar {
+    command: "map",
+    values: &[
+        "--board",
+        "--memory",
+        "--image",
+        "--smram",
+        "--window",
+        "--registers",
+        "--window-size",
+        "--svg",
+        "--color",
+    ],
+    switches: &["--text", "--binary"],
+    files: 1,
+};
+
+/// The columns' widths in the table.
+const WIDTHS: [usize; 4] = [14, 15, 10, 9];
+
+/// What the reader of a map needs to know.
+pub const NOTES: [&str; 2] = [
+    "(n): document 01's rule. error: SMRAM's error bit is set.",
+    "Graphics reaches a page through a table entry that names it; '-': none can.",
+];
+
+/// `mitrophel map`
+pub fn run(words: &[OsString]) -> Result<Status, Failure> {
+    let options = GRAMMAR.parse(words)?;
+    let board = options.board()?;
+    let style = Style::new(options.colour()?);
+    let sink = options.value("--svg").map(Sink::named);
+    let memory = Memory::given(&options)?;
+    let list = match options.source() {
+        Ok(source) => traced(&options, &source)?,
+        Err(_) => described(&options)?,
+    };
+    let map = Map::after(board, &memory, &list)?;
+    if let Some(sink) = &sink {
+        files::save(sink, svg::draw(&map).as_bytes())?;
+    }
+    if sink != Some(Sink::Standard) {
+        let mut out = io::BufWriter::new(io::stdout().lock());
+        map.print(&mut out, style)?;
+        out.flush()?;
+    }
+    Ok(Status::Done)
+}
+
+/// The list of a file.
+fn traced(options: &Options, source: &Source) -> Result<List, Failure> {
+    let only_without = ["--smram", "--window", "--registers", "--window-size"];
+    if let Some(option) = only_without.iter().find(|option| options.has(option)) {
+        return Err(options.usage(format!("{option} and FILE exclude each other: FILE's records decide")));
+    }
+    if *source == Source::Standard && options.value("--image").is_some_and(|file| file == "-") {
+        return Err(options.usage("FILE and --image cannot both be standard input"));
+    }
+    List::read(source, options.form()?)
+}
+
+/// The list that sets up what the options describe.
+fn described(options: &Options) -> Result<List, Failure> {
+    let smram = options.number("--smram")?.unwrap_or(0);
+    if smram > 0xFF {
+        return Err(options.usage(format!("--smram: expected a byte, found {smram:X}h")));
+    }
+    let small = options.converted("--window-size", |text| match numbers::size(text) {
+        Some(size) if size == 32 << 20 => Ok(true),
+        Some(size) if size == 64 << 20 => Ok(false),
+        _ => Err("32M or 64M".to_string()),
+    })?;
+    let small = small.unwrap_or(false);
+    let window = aligned(options, "--window", if small { 32 << 20 } else { 64 << 20 })?;
+    let registers = aligned(options, "--registers", names::REGISTERS_BYTES)?;
+    if !Smram(smram as u8).graphics_on() && window.or(registers).is_some() {
+        return Err(options.usage("--window and --registers act only while GMS (SMRAM bits 7:6) is not 00"));
+    }
+    let mut records = config_write(0, 0x72, 1, u32::from(small));
+    records.extend(config_write(0, 0x70, 1, smram));
+    if let Some(base) = window {
+        records.extend(config_write(1, 0x10, 4, base));
+    }
+    if let Some(base) = registers {
+        records.extend(config_write(1, 0x14, 4, base));
+    }
+    if window.or(registers).is_some() {
+        records.extend(config_write(1, 0x04, 1, 0x06));
+    }
+    List::binary(String::new(), record::encode(&records))
+}
+
+fn config_write(device: usize, at: u32, width: u8, data: u32) -> Vec<Record> {
+    let select = Record::io_write(names::CONFIG_ADDRESS, 4, names::selection(device, at));
+    vec![select, Record::io_write(names::CONFIG_DATA + at % 4, width, data)]
+}
+
+/// An option's address, which must be a multiple of the size of what stands there.
+fn aligned(options: &Options, name: &str, size: u32) -> Result<Option<u32>, Failure> {
+    match options.number(name)? {
+        Some(base) if !base.is_multiple_of(size) => {
+            Err(options.usage(format!("{name}: expected a multiple of {size:X}h, found {base:X}h")))
+        }
+        base => Ok(base),
+    }
+}
+
+impl Map {
+    fn print(&self, out: &mut impl Write, style: Style) -> io::Result<()> {
+        writeln!(out, "{}", style.bold(&self.title))?;
+        for line in self.lines.iter().flat_map(|line| words::wrapped(line, 80)) {
+            writeln!(out, "{line}")?;
+        }
+        let headings: Vec<String> = COLUMNS.iter().zip(WIDTHS).map(|(name, width)| format!("{name:<width$}")).collect();
+        let heading = format!("  {:<8} {:<8}  {} range", "from", "to", headings.join(" "));
+        writeln!(out, "\n{}", style.bold(&heading))?;
+        for row in &self.rows {
+            let mark = if row.protected { style.bad("*") } else { " ".to_string() };
+            let cells: Vec<String> =
+                row.cells.iter().zip(WIDTHS).map(|(cell, width)| paint(style, cell, width)).collect();
+            let line = format!("{mark} {:08X}-{:08X}  {} {}", row.first, row.last, cells.join(" "), row.name);
+            writeln!(out, "{}", line.trim_end())?;
+        }
+        write!(out, "\n*: protected. ")?;
+        NOTES.iter().try_for_each(|note| writeln!(out, "{note}"))?;
+        self.print_table(out, style)
+    }
+
+    fn print_table(&self, out: &mut impl Write, style: Style) -> io::Result<()> {
+        if self.table.is_empty() {
+            return Ok(());
+        }
+        let state = if self.translation { "on" } else { "off: every access through it is refused 3" };
+        writeln!(out, "\n{}", style.bold(&format!("Translation table ({state})")))?;
+        for mapping in &self.table {
+            let Mapping { first, last, page, reach } = *mapping;
+            let entries = if first == last { format!("{first}") } else { format!("{first}..{last}") };
+            let bytes = (last - first + 1) * 4096 - 1;
+            let pages = format!("{page:08X}-{:08X}", page + bytes);
+            let goes = match reach {
+                Reach::Reached => format!("memory {pages}"),
+                Reach::OtherMemory => style.bad("refused 5: type 01 or 10"),
+                Reach::AboveMemory => style.bad(&format!("refused 7: {pages}")),
+                Reach::Protected => style.bad(&format!("refused 6: {pages}")),
+            };
+            let window = format!("{:07X}-{:07X}", first * 4096, first * 4096 + bytes);
+            writeln!(out, "  window {window}  entries {entries:<13} {goes}")?;
+        }
+        Ok(())
+    }
+}
+
+fn paint(style: Style, cell: &Cell, width: usize) -> String {
+    let text = format!("{:<width$}", cell.text);
+    match cell.class {
+        Class::Refused => style.bad(&text),
+        Class::Error => style.warning(&text),
+        Class::Hub | Class::Vga | Class::Nothing => style.dim(&text),
+        Class::Memory | Class::Registers | Class::Window => text,
+    }
+}

@@ -1,0 +1,96 @@
+//! The command line.
+
+mod args;
+mod audit;
+mod convert;
+mod demo;
+mod explain;
+mod failure;
+mod files;
+mod follow;
+mod help;
+mod listing;
+mod load;
+mod map;
+mod names;
+mod numbers;
+mod pair;
+mod picture;
+mod progress;
+mod replay;
+mod style;
+mod survey;
+mod svg;
+mod trace;
+mod words;
+
+use failure::{complain, Failure, Status};
+use std::env;
+use std::ffi::OsString;
+use std::io::{self, Write};
+use std::process::ExitCode;
+
+/// Runs the command that the program's arguments name.
+pub fn main() -> ExitCode {
+    let words: Vec<OsString> = env::args_os().skip(1).collect();
+    let status = run(&words).unwrap_or_else(|failure| {
+        failure.tell();
+        failure.status
+    });
+    ExitCode::from(status as u8)
+}
+
+fn run(words: &[OsString]) -> Result<Status, Failure> {
+    let Some((command, rest)) = words.split_first() else {
+        return Err(Failure::no_command(help::overview().trim_end()));
+    };
+    let command = command.to_string_lossy();
+    match command.as_ref() {
+        "-h" | "--help" => return say(&help::overview()),
+        "-V" | "--version" => return say(&version()),
+        "help" => return help_of(rest),
+        _ => {}
+    }
+    let Some(help) = help::of(&command) else {
+        let known: Vec<&str> = help::COMMANDS.iter().map(|(name, _, _)| *name).collect();
+        return Err(Failure::usage(format!("expected a command ({}), found '{command}'", known.join(", "))));
+    };
+    if asks_for_help(rest) {
+        return say(help);
+    }
+    match command.as_ref() {
+        "replay" => replay::run(rest),
+        "asm" => convert::asm(rest),
+        "disasm" => convert::disasm(rest),
+        "map" => map::run(rest),
+        "audit" => audit::run(rest),
+        _ => demo::run(rest),
+    }
+}
+
+/// `-h` or `--help` before any `--`.
+fn asks_for_help(words: &[OsString]) -> bool {
+    words.iter().take_while(|word| *word != "--").any(|word| word == "-h" || word == "--help")
+}
+
+fn help_of(words: &[OsString]) -> Result<Status, Failure> {
+    match words {
+        [] => say(&help::overview()),
+        [command] => match help::of(&command.to_string_lossy()) {
+            Some(help) => say(help),
+            None => Err(Failure::usage(format!("no help on '{}'", command.display()))),
+        },
+        _ => Err(Failure::usage("expected one command after 'help'")),
+    }
+}
+
+fn say(text: &str) -> Result<Status, Failure> {
+    let mut out = io::stdout().lock();
+    out.write_all(text.as_bytes()).and_then(|()| out.flush())?;
+    Ok(Status::Done)
+}
+
+fn version() -> String {
+    let answers = "answers by the machine-proved archive libdesk.a, explanations by the reference";
+    format!("mitrophel {}\n{answers}\n", env!("CARGO_PKG_VERSION"))
+}

@@ -1,0 +1,298 @@
+//! The proved call with the reference beside it.
+//!
+//! The answers and the memory are the proved call's. The reference replays the same records one at a
+//! time, so that each answer can be explained; the two must agree in every answer and in every byte of
+//! memory.
+
+use super::failure::Failure;
+use super::listing;
+use super::names::{self, Bases};
+use mitrophel::faults::Faultless;
+use mitrophel::record::{self, RECORD_BYTES};
+use mitrophel::reference::{Hub, Observer, Rule, Table, TABLE_WORDS};
+use mitrophel::{Answer, Kind, Record, Refused, Target};
+
+/// The proved call, or what a test puts in its place.
+pub type Call = fn(u32, &mut [u8], &[u8], &mut [u8]) -> Result<(), Refused>;
+
+/// Remembers the rule by which the last address was routed.
+#[derive(Default)]
+pub struct Heard(Option<Rule>);
+
+impl Observer for Heard {
+    fn routed(&mut self, rule: Rule) {
+        self.0 = Some(rule);
+    }
+}
+
+/// State of the hub that the reference does not show, gathered from its answers.
+pub struct Ledger {
+    /// CF8h
+    pub config_address: u32,
+    /// 2020h
+    pub table_control: u32,
+    pub table: Box<Table>,
+}
+
+impl Ledger {
+    fn new() -> Ledger {
+        Ledger { config_address: 0, table_control: 0, table: Box::new([0; TABLE_WORDS]) }
+    }
+
+    /// Takes note of what a register holds after it was written.
+    fn written(&mut self, answer: &Answer, now: u32) {
+        match (answer.target(), answer.address) {
+            (Some(Target::Register), names::CONFIG_ADDRESS) => self.config_address = now,
+            (Some(Target::MemoryMapped), 0x2020) => self.table_control = now,
+            (Some(Target::MemoryMapped), offset) => {
+                if let Some(word) = names::entry_at(offset).and_then(|entry| self.table.get_mut(entry as usize)) {
+                    *word = now;
+                }
+            }
+            _ => {}
+        }
+    }
+}
+
+/// One record with its answer, and what there is to say about it.
+pub struct Step<'a, 'm> {
+    /// From 0, in this call.
+    pub index: usize,
+    pub record: Record,
+    pub answer: Answer,
+    /// The rule that routed it, if it came so far.
+    pub rule: Option<Rule>,
+    /// What the names stood for when the record came.
+    pub bases: Bases,
+    /// What the register holds that the record wrote.
+    pub now: Option<u32>,
+    /// The reference after the record.
+    pub hub: &'a Hub<'m, Heard>,
+    pub ledger: &'a Ledger,
+}
+
+/// A board under the proved call and under the reference.
+pub struct Pair {
+    board: u32,
+    call: Call,
+    proved: Vec<u8>,
+    beside: Vec<u8>,
+}
+
+impl Pair {
+    /// A board whose memory is given twice.
+    pub fn new(board: u32, memory: [Vec<u8>; 2]) -> Pair {
+        Pair::by(board, memory, mitrophel::replay)
+    }
+
+    /// The same, with this call in the proved one's place.
+    pub fn by(board: u32, memory: [Vec<u8>; 2], call: Call) -> Pair {
+        let [proved, beside] = memory;
+        Pair { board, call, proved, beside }
+    }
+
+    /// The memory as the proved call left it.
+    pub fn memory(&self) -> &[u8] {
+        &self.proved
+    }
+
+    /// Makes one call and gives its answers. `each` is told every record.
+    pub fn replay<E>(&mut self, records: &[u8], mut each: E) -> Result<Vec<u8>, Failure>
+    where
+        E: FnMut(&Step<'_, '_>) -> Result<(), Failure>,
+    {
+        let mut answers = vec![0; records.len()];
+        (self.call)(self.board, &mut self.proved, records, &mut answers).map_err(|refused| refused_call(&refused))?;
+        let mut table = Box::new([0; TABLE_WORDS]);
+        let mut hub = Hub::new(self.board, &mut self.beside, &mut table, Heard::default(), Faultless)
+            .ok_or_else(|| Failure::disagreement("the reference refuses a board that the proved call takes"))?;
+        let mut ledger = Ledger::new();
+        for (index, (record, answer)) in record::decode(records).zip(record::decode_answers(&answers)).enumerate() {
+            let bases = Bases::of(&hub);
+            let beside = hub.answer(&record);
+            if answer != beside {
+                return Err(different_answers(index, &record, bases, &answer, &beside));
+            }
+            let rule = hub.observer().0.take();
+            let now = register_now(&mut hub, &record, &answer);
+            if record.kind() == Some(Kind::Reset) && answer.code == 0 {
+                ledger = Ledger::new();
+            } else if let Some(now) = now {
+                ledger.written(&answer, now);
+            }
+            each(&Step { index, record, answer, rule, bases, now, hub: &hub, ledger: &ledger })?;
+        }
+        self.compare_memory()?;
+        Ok(answers)
+    }
+
+    fn compare_memory(&self) -> Result<(), Failure> {
+        if self.proved == self.beside {
+            return Ok(());
+        }
+        let at = self.proved.iter().zip(&self.beside).position(|(proved, beside)| proved != beside).unwrap_or_default();
+        let (proved, beside) = (self.proved[at], self.beside[at]);
+        Err(Failure::disagreement(format!(
+            "{LOUD} about memory: byte {at:X}h is {proved:02X}h after the proved call and {beside:02X}h after the \
+             reference\n{ADVICE}"
+        )))
+    }
+}
+
+const LOUD: &str = "THE PROVED CALL AND THE REFERENCE DISAGREE";
+const ADVICE: &str = "Trust neither answer. Nothing was written. Please report the records with this message.";
+
+fn refused_call(refused: &Refused) -> Failure {
+    Failure::disagreement(format!("the proved call refused arguments that were checked before: {refused}"))
+}
+
+fn different_answers(index: usize, record: &Record, bases: Bases, proved: &Answer, beside: &Answer) -> Failure {
+    let hex = |answer: &Answer| answer.to_bytes().map(|byte| format!("{byte:02X} ")).concat();
+    Failure::disagreement(format!(
+        "{LOUD} at record {} of the call: {}\n  proved call {}({proved})\n  reference   {}({beside})\n{ADVICE}",
+        index + 1,
+        listing::statement(record, bases),
+        hex(proved),
+        hex(beside),
+    ))
+}
+
+/// What the register holds that a record just wrote. Reading a register changes nothing.
+fn register_now(hub: &mut Hub<'_, Heard>, record: &Record, answer: &Answer) -> Option<u32> {
+    if answer.code != 0 || !matches!(answer.target(), Some(Target::Register | Target::MemoryMapped)) {
+        return None;
+    }
+    let read = match record.kind()? {
+        Kind::IoWrite => Record::io_read(record.address, record.width),
+        Kind::Write => Record::read(record.address, record.width, record.is_management()),
+        _ => return None,
+    };
+    let value = hub.answer(&read).value;
+    hub.observer().0 = None;
+    Some(value)
+}
+
+/// Cuts a list into calls of at most 65,535 records: the length in bytes of the first call.
+///
+/// A call is a cold start, and so is a reset but for memory, which both leave. So a list may be cut in
+/// front of a reset record, which stays the first of its call and is answered there as it would have
+/// been in a single one.
+pub fn first_call(records: &[u8]) -> Option<usize> {
+    if records.len() / RECORD_BYTES <= record::MAX_RECORDS {
+        return Some(records.len());
+    }
+    let resets = record::decode(records).enumerate().take(record::MAX_RECORDS + 1).skip(1);
+    resets.filter(|(_, record)| *record == Record::reset()).last().map(|(index, _)| index * RECORD_BYTES)
+}
+
+#[cfg(test)]
+mod tests {
+    use super::super::failure::Status;
+    use super::*;
+    use mitrophel::faults::{Fault, OneFault};
+    use mitrophel::reference::{self, Unobserved};
+
+    fn memory() -> [Vec<u8>; 2] {
+        [vec![0; 8 << 20], vec![0; 8 << 20]]
+    }
+
+    fn faulty(board: u32, memory: &mut [u8], records: &[u8], answers: &mut [u8]) -> Result<(), Refused> {
+        let fault = OneFault::new(Fault::LockDoesNotHold);
+        let result = reference::replay_with(board, memory, records, answers, Unobserved, fault);
+        if result == 0 {
+            Ok(())
+        } else {
+            Err(Refused)
+        }
+    }
+
+    /// Answers as the reference does, but leaves a byte of memory other than it should.
+    fn scribbling(board: u32, memory: &mut [u8], records: &[u8], answers: &mut [u8]) -> Result<(), Refused> {
+        faulty(board, memory, records, answers)?;
+        memory[0x1234] ^= 1;
+        Ok(())
+    }
+
+    fn refusing(_: u32, _: &mut [u8], _: &[u8], _: &mut [u8]) -> Result<(), Refused> {
+        Err(Refused)
+    }
+
+    fn smram(value: u32) -> [Record; 2] {
+        [Record::io_write(0xCF8, 4, 0x8000_0070), Record::io_write(0xCFC, 1, value)]
+    }
+
+    #[test]
+    fn a_different_answer_is_told_loudly() {
+        let mut records = smram(0x42).to_vec();
+        records.extend(smram(0x00));
+        records.push(Record::io_read(0xCFC, 1));
+        let records = record::encode(&records);
+        let mut seen = 0;
+        let mut count = |_: &Step<'_, '_>| {
+            seen += 1;
+            Ok(())
+        };
+        let failure = Pair::by(0, memory(), faulty).replay(&records, &mut count).expect_err("a faulty call");
+        assert_eq!(failure.status, Status::Disagreement);
+        assert!(failure.message.contains("DISAGREE at record 5 of the call: in1 CONFIG_DATA"), "{}", failure.message);
+        assert_eq!(seen, 4);
+        Pair::new(0, memory()).replay(&records, |_| Ok(())).expect("the two agree");
+    }
+
+    #[test]
+    fn a_different_byte_of_memory_is_told_loudly() {
+        let mut pair = Pair::by(0, memory(), scribbling);
+        let failure = pair.replay(&[], |_| Ok(())).expect_err("a scribbling call");
+        assert_eq!(failure.status, Status::Disagreement);
+        assert!(failure.message.contains("byte 1234h is 01h after the proved call"), "{}", failure.message);
+        let failure = Pair::by(0, memory(), refusing).replay(&[], |_| Ok(())).expect_err("a refusing call");
+        assert_eq!(failure.status, Status::Disagreement);
+    }
+
+    fn list(length: usize, resets: &[usize]) -> Vec<u8> {
+        let mut records = vec![Record::read(0, 4, false); length];
+        for &at in resets {
+            records[at] = Record::reset();
+        }
+        record::encode(&records)
+    }
+
+    #[test]
+    fn a_list_is_cut_in_front_of_the_last_reset_that_fits() {
+        assert_eq!(first_call(&[]), Some(0));
+        assert_eq!(first_call(&list(65_535, &[7])), Some(65_535 * 16));
+        assert_eq!(first_call(&list(65_536, &[])), None);
+        assert_eq!(first_call(&list(65_536, &[0])), None);
+        assert_eq!(first_call(&list(65_536, &[1])), Some(16));
+        assert_eq!(first_call(&list(65_536, &[1, 500])), Some(500 * 16));
+        assert_eq!(first_call(&list(65_537, &[65_535])), Some(65_535 * 16));
+        assert_eq!(first_call(&list(65_537, &[65_536])), None);
+    }
+
+    /// Cutting keeps every answer, the resets' too, and all of memory.
+    #[test]
+    fn a_cut_list_has_the_answers_of_the_whole_list() {
+        let mut records: Vec<Record> = Vec::new();
+        for round in 0..40 {
+            records.extend(smram(0x40 + 0x10 * (round % 4)));
+            records.push(Record::write(0x1000 + 4 * (round % 8), 4, round, false));
+            records.push(Record::read(0x1000, 4, false));
+            records.push(Record::read(0x7F_FFFC, 4, round % 2 == 0));
+            records.push(Record::io_read(0xCFC, 1));
+            records.push(Record::reset());
+            records.push(Record::io_read(0xCF8, 4));
+        }
+        let bytes = record::encode(&records);
+        let mut whole = Pair::new(0, memory());
+        let expected = whole.replay(&bytes, |_| Ok(())).expect("the two agree");
+        let mut cut = Pair::new(0, memory());
+        let mut answers = Vec::new();
+        let resets = (0..records.len()).filter(|&at| records[at] == Record::reset());
+        let edges: Vec<usize> = [0].into_iter().chain(resets).chain([records.len()]).collect();
+        for edge in edges.windows(2) {
+            answers.extend(cut.replay(&bytes[16 * edge[0]..16 * edge[1]], |_| Ok(())).expect("the two agree"));
+        }
+        assert!(answers == expected);
+        assert!(cut.memory() == whole.memory());
+    }
+}

@@ -1,0 +1,394 @@
+//! Where each address goes, found by asking.
+//!
+//! At each address where something may change, the proved call and the reference are given a read by the
+//! processor, by management mode (data and code) and by a hub master.
+
+use super::failure::Failure;
+use super::follow::{Follower, Ground};
+use super::load::{List, Memory};
+use super::pair::{Pair, Step};
+use super::{names, numbers, words};
+use mitrophel::record::{self, MAX_RECORDS, RECORD_BYTES};
+use mitrophel::reference::{Hub, Rule};
+use mitrophel::Record;
+
+/// Where one kind of access goes.
+#[derive(Clone, Debug, PartialEq, Eq)]
+pub struct Cell {
+    pub class: Class,
+    pub text: String,
+}
+
+/// What a cell is coloured by.
+#[derive(Clone, Copy, Debug, PartialEq, Eq)]
+pub enum Class {
+    Memory,
+    Registers,
+    Window,
+    Vga,
+    Hub,
+    Error,
+    Refused,
+    Nothing,
+}
+
+/// Who accesses, in the order of a row's cells.
+pub const COLUMNS: [&str; 4] = ["processor", "management mode", "hub master", "graphics"];
+
+/// Addresses that all go the same way.
+#[derive(Clone, Debug)]
+pub struct Row {
+    pub first: u32,
+    pub last: u32,
+    pub cells: [Cell; 4],
+    pub protected: bool,
+    pub name: &'static str,
+}
+
+/// Entries of the table, one after the other, whose pages count up and are all reached or all refused
+/// for the same reason.
+#[derive(Clone, Copy, Debug, PartialEq, Eq)]
+pub struct Mapping {
+    pub first: u32,
+    pub last: u32,
+    pub page: u32,
+    pub reach: Reach,
+}
+
+/// What becomes of a valid entry.
+#[derive(Clone, Copy, Debug, PartialEq, Eq)]
+pub enum Reach {
+    Reached,
+    OtherMemory,
+    AboveMemory,
+    Protected,
+}
+
+/// The whole map.
+pub struct Map {
+    pub title: String,
+    pub lines: Vec<String>,
+    pub rows: Vec<Row>,
+    pub table: Vec<Mapping>,
+    pub translation: bool,
+}
+
+/// Where the map may change, from 0 up.
+fn edges(hub: &Hub<'_>, tom: u32) -> Vec<u32> {
+    let (tseg, taken) = (hub.smram().tseg_bytes(), hub.smram().taken_bytes());
+    let mut edges: Vec<u64> = [0, 0xA_0000, 0xC_0000, 0x10_0000, 0x4000_0000, 0xFEEA_0000, 0xFEEC_0000].to_vec();
+    edges.extend([tom - tseg - taken, tom - tseg, tom].map(u64::from));
+    if hub.graphics_decodes() {
+        let (registers, window) = (u64::from(hub.registers_base()), u64::from(hub.window_base()));
+        edges.extend([registers, registers + u64::from(names::REGISTERS_BYTES)]);
+        edges.extend([window, window + u64::from(hub.window_bytes())]);
+    }
+    edges.sort_unstable();
+    edges.dedup();
+    edges.into_iter().filter_map(|edge| u32::try_from(edge).ok()).collect()
+}
+
+/// One read for each column but the last; management mode reads data and code.
+fn probes(edge: u32) -> [Record; 4] {
+    [
+        Record::read(edge, 4, false),
+        Record::read(edge, 4, true),
+        Record::code_read(edge, 4, true),
+        Record::master_read(edge, 4),
+    ]
+}
+
+impl Map {
+    /// The map in force after the list's records.
+    pub fn after(board: u32, memory: &Memory, list: &List) -> Result<Map, Failure> {
+        let mut calls = list.calls()?;
+        let last = calls.pop().unwrap_or(0..0);
+        let mut pair = Pair::new(board, [memory.fresh(), memory.fresh()]);
+        for call in calls {
+            pair.replay(&list.records[call], |_| Ok(()))?;
+        }
+        let setup = &list.records[last.clone()];
+        let edges = edges_after(setup, memory.length() as u32);
+        let mut records = setup.to_vec();
+        records.extend(record::encode(&edges.iter().flat_map(|edge| probes(*edge)).collect::<Vec<_>>()));
+        if records.len() / RECORD_BYTES > MAX_RECORDS {
+            let place = list.place(list.records.len().saturating_sub(RECORD_BYTES) / RECORD_BYTES);
+            let room = MAX_RECORDS - 4 * edges.len();
+            return Err(Failure::input(format!(
+                "{place}: the map asks {} questions in the last call: expected at most {} records there",
+                4 * edges.len(),
+                numbers::grouped(room as u64)
+            )));
+        }
+        let mut asked = Asked { probes: setup.len() / RECORD_BYTES, edges, ..Asked::default() };
+        pair.replay(&records, |step| {
+            asked.note(step, board);
+            Ok(())
+        })?;
+        Ok(asked.finish())
+    }
+}
+
+/// The edges as the records leave them.
+fn edges_after(records: &[u8], tom: u32) -> Vec<u32> {
+    let mut ground = Ground::new();
+    let mut follower = Follower::new(&mut ground);
+    record::decode(records).for_each(|record| follower.note(&record));
+    edges(follower.hub(), tom)
+}
+
+/// The answers to the probes as they come.
+#[derive(Default)]
+struct Asked {
+    edges: Vec<u32>,
+    /// Records before the first probe.
+    probes: usize,
+    rules: Vec<Option<Rule>>,
+    protected: Vec<bool>,
+    tom: u32,
+    usable_top: u32,
+    title: String,
+    lines: Vec<String>,
+    table: Vec<Mapping>,
+    translation: bool,
+}
+
+impl Asked {
+    fn note(&mut self, step: &Step<'_, '_>, board: u32) {
+        let Some(number) = step.index.checked_sub(self.probes) else { return };
+        if number == 0 {
+            self.describe(step, board);
+        }
+        if number.is_multiple_of(4) {
+            self.protected.push(step.hub.protected(step.record.address));
+        }
+        self.rules.push(step.rule);
+    }
+
+    fn describe(&mut self, step: &Step<'_, '_>, board: u32) {
+        let hub = step.hub;
+        let name = names::BOARDS.get(board as usize).copied().unwrap_or_default();
+        let memory = numbers::bytes(hub.tom().into());
+        self.tom = hub.tom();
+        self.usable_top = hub.usable_top();
+        self.title = format!("Address map: board {name}, {memory}, SMRAM {:02X}h", hub.smram().0);
+        self.lines.push(format!("SMRAM: {}.", words::smram(hub.smram())));
+        self.lines.push(format!(
+            "Memory ends at TOM, {:X}h, ordinary memory at U, {:X}h.",
+            hub.tom(),
+            hub.usable_top()
+        ));
+        if hub.graphics_decodes() {
+            let size = numbers::bytes(hub.window_bytes().into());
+            self.lines.push(format!("Window: {size} at {:X}h (GMADR).", hub.window_base()));
+            self.lines.push(format!("Registers: 512 KiB at {:X}h (MMADR).", hub.registers_base()));
+        } else {
+            self.lines.push("Window and registers are off.".to_string());
+        }
+        self.translation = step.ledger.table_control & 1 != 0;
+        self.table = mappings(&step.ledger.table[..], |page| {
+            if page >= hub.tom() {
+                Reach::AboveMemory
+            } else if hub.protected(page) {
+                Reach::Protected
+            } else {
+                Reach::Reached
+            }
+        });
+    }
+
+    fn finish(self) -> Map {
+        let mut rows: Vec<Row> = Vec::new();
+        for (at, &first) in self.edges.iter().enumerate() {
+            let last = self.edges.get(at + 1).map_or(u32::MAX, |next| next - 1);
+            let Some(row) = self.row(at, first, last) else { continue };
+            match rows.last_mut() {
+                Some(before) if before.cells == row.cells && before.name == row.name => before.last = last,
+                _ => rows.push(row),
+            }
+        }
+        Map { title: self.title, lines: self.lines, rows, table: self.table, translation: self.translation }
+    }
+
+    fn row(&self, at: usize, first: u32, last: u32) -> Option<Row> {
+        let rules: Vec<Rule> = self.rules.get(4 * at..4 * at + 4)?.iter().flatten().copied().collect();
+        let [processor, data, code, master] = rules[..] else { return None };
+        let protected = *self.protected.get(at)?;
+        let cells = [cell(processor), management(data, code), cell(master), self.graphics(first, protected)];
+        Some(Row { first, last, cells, protected, name: self.name(first, processor) })
+    }
+
+    /// What an entry that names a page there reaches.
+    fn graphics(&self, first: u32, protected: bool) -> Cell {
+        let (class, text) = match first {
+            0x4000_0000.. => (Class::Nothing, "-"),
+            _ if first >= self.tom => (Class::Refused, "refused 7"),
+            _ if protected => (Class::Refused, "refused 6"),
+            _ => (Class::Memory, "memory"),
+        };
+        Cell { class, text: text.to_string() }
+    }
+
+    fn name(&self, first: u32, processor: Rule) -> &'static str {
+        match processor {
+            Rule::CompatibleMemory | Rule::CompatibleVga | Rule::CompatibleHub => "VGA",
+            Rule::Bios => "BIOS",
+            Rule::TsegMemory | Rule::TsegError => "TSEG",
+            Rule::Taken => "taken",
+            Rule::HsegMemory | Rule::HsegError => "HSEG",
+            Rule::Registers => "MMIO",
+            Rule::Window => "WINDOW",
+            _ if first < self.usable_top => "main",
+            _ => "",
+        }
+    }
+}
+
+/// Where a rule takes an address.
+fn cell(rule: Rule) -> Cell {
+    let (class, text) = match rule {
+        Rule::Low => (Class::Memory, "memory (1)"),
+        Rule::CompatibleMemory => (Class::Memory, "memory (2)"),
+        Rule::CompatibleVga => (Class::Vga, "VGA (2)"),
+        Rule::CompatibleHub => (Class::Hub, "hub (2)"),
+        Rule::Bios => (Class::Hub, "hub (3)"),
+        Rule::Main => (Class::Memory, "memory (4)"),
+        Rule::TsegMemory => (Class::Memory, "memory (5)"),
+        Rule::TsegError => (Class::Error, "hub, error (5)"),
+        Rule::Taken => (Class::Hub, "hub (5)"),
+        Rule::HsegMemory => (Class::Memory, "A0000h up (6)"),
+        Rule::HsegError => (Class::Error, "hub, error (6)"),
+        Rule::Registers => (Class::Registers, "registers (7)"),
+        Rule::Window => (Class::Window, "window (8)"),
+        Rule::Elsewhere => (Class::Hub, "hub (9)"),
+        Rule::MasterLow => (Class::Memory, "memory (1)"),
+        Rule::MasterCompatible => (Class::Memory, "memory (2)"),
+        Rule::MasterMain => (Class::Memory, "memory (4)"),
+        Rule::MasterHub => (Class::Hub, "hub"),
+        Rule::ConfigAddress | Rule::DeviceZero | Rule::DeviceOne | Rule::OtherPort => (Class::Nothing, "port"),
+    };
+    Cell { class, text: text.to_string() }
+}
+
+/// Management mode's data and code reads in one cell.
+fn management(data: Rule, code: Rule) -> Cell {
+    let (data, code) = (cell(data), cell(code));
+    if data == code {
+        return data;
+    }
+    // Rule 2 with LSMM 10: code reads reach memory, all else goes where the processor's goes.
+    Cell { class: code.class, text: "code memory (2)".to_string() }
+}
+
+/// The valid entries, in runs.
+fn mappings(table: &[u32], reach: impl Fn(u32) -> Reach) -> Vec<Mapping> {
+    let mut mappings: Vec<Mapping> = Vec::new();
+    for (entry, word) in (0..).zip(table.iter().copied()) {
+        if word & 1 == 0 {
+            continue;
+        }
+        let page = words::entry_page(word);
+        let reach = if matches!(word >> 1 & 3, 1 | 2) { Reach::OtherMemory } else { reach(page) };
+        match mappings.last_mut() {
+            Some(run) if continues(run, entry, page, reach) => run.last = entry,
+            _ => mappings.push(Mapping { first: entry, last: entry, page, reach }),
+        }
+    }
+    mappings
+}
+
+fn continues(run: &Mapping, entry: u32, page: u32, reach: Reach) -> bool {
+    let counts_up = reach == Reach::OtherMemory || page == run.page + 4096 * (entry - run.first);
+    entry == run.last + 1 && reach == run.reach && counts_up
+}
+
+#[cfg(test)]
+mod tests {
+    use super::*;
+    use mitrophel::faults::Faultless;
+    use mitrophel::reference::{Observer, TABLE_WORDS};
+
+    #[derive(Default)]
+    struct Heard(Option<Rule>);
+
+    impl Observer for Heard {
+        fn routed(&mut self, rule: Rule) {
+            self.0 = Some(rule);
+        }
+    }
+
+    fn setup(smram: u32, window: u32, registers: u32, small: u32) -> Vec<Record> {
+        let writes = [(0, 0x72, small), (0, 0x70, smram), (1, 0x10, window), (1, 0x14, registers), (1, 0x04, 2)];
+        let mut records = Vec::new();
+        for (device, at, data) in writes {
+            records.push(Record::io_write(0xCF8, 4, names::selection(device, at)));
+            records.push(Record::io_write(0xCFC + at % 4, if at == 0x10 || at == 0x14 { 4 } else { 1 }, data));
+        }
+        records
+    }
+
+    /// Every SMRAM, at bases below, around and above memory: each row is right at its ends, next to them
+    /// and inside, and the rows cover all addresses.
+    #[test]
+    fn every_address_of_a_row_goes_where_the_row_says() {
+        let bases = [(0, 0), (0xC000_0000, 0xF000_0000), (0xFC00_0000, 0xFFF8_0000), (0, 0x0200_0000), (0, 0x10_0000)];
+        let memory = Memory::zeros(8 << 20);
+        let mut asked = 0;
+        for smram in (0..=0xFF).step_by(4) {
+            for (number, (window, registers)) in bases.into_iter().enumerate().skip(smram as usize / 4 % 2).step_by(2) {
+                let records = setup(smram, window, registers, number as u32 & 1);
+                let list = List::binary(String::new(), record::encode(&records)).expect("whole records");
+                let map = Map::after(0, &memory, &list).expect("a map");
+                asked += check(&map, &memory, &records);
+            }
+        }
+        assert!(asked > 5_000, "{asked}");
+    }
+
+    fn check(map: &Map, memory: &Memory, setup: &[Record]) -> usize {
+        let (mut bytes, mut table) = (memory.fresh(), Box::new([0; TABLE_WORDS]));
+        let mut hub = Hub::new(0, &mut bytes, &mut table, Heard::default(), Faultless).expect("a board");
+        for record in setup {
+            hub.answer(record);
+        }
+        let mut asked = 0;
+        let mut next = 0;
+        for row in &map.rows {
+            assert_eq!(u64::from(row.first), next, "the rows leave no gap");
+            next = u64::from(row.last) + 1;
+            let inside = row.first + (row.last - row.first) / 3;
+            for address in [row.first, row.first + 4, inside & !3, row.last & !3] {
+                let rules = probes(address).map(|probe| {
+                    hub.answer(&probe);
+                    hub.observer().0.take().expect("every address is routed")
+                });
+                let found = [cell(rules[0]), management(rules[1], rules[2]), cell(rules[3])];
+                assert_eq!(found, row.cells[..3], "{address:X}h");
+                assert_eq!(hub.protected(address), row.protected, "{address:X}h");
+                asked += 1;
+            }
+        }
+        assert_eq!(next, 1 << 32);
+        asked
+    }
+
+    #[test]
+    fn entries_that_count_up_are_one_mapping() {
+        let mut table = [0; 16];
+        table[1] = 0x0010_0001;
+        table[2] = 0x0010_1007;
+        table[3] = 0x0010_3001;
+        table[5] = 0x0010_3003;
+        table[6] = 0x0070_0005;
+        table[8] = 0x0080_0001;
+        let reach = |page| if page >= 0x80_0000 { Reach::AboveMemory } else { Reach::Reached };
+        let mapping = |first, last, page, reach| Mapping { first, last, page, reach };
+        let expected = [
+            mapping(1, 2, 0x10_0000, Reach::Reached),
+            mapping(3, 3, 0x10_3000, Reach::Reached),
+            mapping(5, 6, 0x10_3000, Reach::OtherMemory),
+            mapping(8, 8, 0x80_0000, Reach::AboveMemory),
+        ];
+        assert_eq!(mappings(&table, reach), expected);
+    }
+}

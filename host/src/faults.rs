@@ -1,0 +1,207 @@
+//! Deliberate faults for the mutation check.
+//!
+//! A test that compares two replays is worth what it would notice. Each [`Fault`] makes the
+//! reference wrong in one way that a careful reader of document 01 could still fall into; the
+//! mutation check asks that the random comparison notices every one. The reference asks for its
+//! faults through a type parameter, so [`Faultless`] leaves nothing of them in the compiled code.
+
+/// Which faults a replay has.
+pub trait Faults {
+    /// Whether this fault is present.
+    fn has(&self, fault: Fault) -> bool;
+
+    /// Notes a user interrupt that the mask held back ([`Fault::MaskedInterruptStaysPending`]).
+    #[inline(always)]
+    fn hold_interrupt(&mut self) {}
+
+    /// Takes the note back.
+    #[inline(always)]
+    fn take_interrupt(&mut self) -> bool {
+        false
+    }
+}
+
+/// No fault: the reference itself.
+#[derive(Clone, Copy, Debug, Default)]
+pub struct Faultless;
+
+impl Faults for Faultless {
+    #[inline(always)]
+    fn has(&self, _: Fault) -> bool {
+        false
+    }
+}
+
+/// Exactly one fault.
+#[derive(Clone, Copy, Debug)]
+pub struct OneFault {
+    fault: Fault,
+    held: bool,
+}
+
+impl OneFault {
+    /// The reference with this fault.
+    pub const fn new(fault: Fault) -> OneFault {
+        OneFault { fault, held: false }
+    }
+}
+
+impl Faults for OneFault {
+    #[inline]
+    fn has(&self, fault: Fault) -> bool {
+        self.fault == fault
+    }
+
+    fn hold_interrupt(&mut self) {
+        self.held = true;
+    }
+
+    fn take_interrupt(&mut self) -> bool {
+        std::mem::take(&mut self.held)
+    }
+}
+
+macro_rules! faults {
+    ($($(#[doc = $doc:literal])* $name:ident,)*) => {
+        /// One way of being wrong. The comment says what the faulty replay does.
+        #[derive(Clone, Copy, Debug, PartialEq, Eq)]
+        pub enum Fault { $($(#[doc = $doc])* $name,)* }
+
+        impl Fault {
+            /// Every fault.
+            pub const ALL: &[Fault] = &[$(Fault::$name,)*];
+        }
+    };
+}
+
+faults! {
+    // Records and answers.
+    /// Code 2 is given where 13 also holds.
+    WidthBeforeLayout,
+    /// An access that is not aligned to its own width is refused even inside one word.
+    NaturalAlignmentAsked,
+    /// The interrupt line is the one before the access.
+    LineBeforeAccess,
+    /// A refusal's answer has no interrupt line.
+    RefusalWithoutLine,
+
+    // Configuration space.
+    /// A 1-byte or 2-byte access to CF8h reaches the register.
+    NarrowConfigAddressAccepted,
+    /// Device 1 answers while GMS is 00.
+    DeviceOneAlwaysVisible,
+    /// Write-once holds for each byte by itself.
+    WriteOncePerByte,
+    /// GMADR bit 25 counts in a window of 64 MiB.
+    Bit25Counts,
+    /// GMADR bit 25 reads as written in a window of 64 MiB.
+    Bit25Reads,
+    /// The lock does not hold SMRAM.
+    LockDoesNotHold,
+    /// The write that sets the lock leaves SMRAM's other bits.
+    LockingWriteTakesNothingElse,
+    /// The error bit is stored as written.
+    ErrorBitPlain,
+    /// No access sets the error bit once SMRAM is locked.
+    ErrorBitFrozenByLock,
+    /// Reset leaves a locked SMRAM.
+    ResetKeepsLock,
+    /// Reset leaves the translation table.
+    ResetKeepsTable,
+
+    // Address map.
+    /// HSEG acts whatever LSMM is.
+    HsegActsBesideLsmm,
+    /// Management mode reaches A0000h-BFFFFh while HSEG acts.
+    HsegOpensCompatibleRange,
+    /// Under LSMM 10 management data reads reach memory too.
+    ManagementDataReadsOpened,
+    /// Under LSMM 10 management code reads do not reach memory.
+    ManagementCodeReadsShut,
+    /// Hub masters reach A0000h-BFFFFh under LSMM 11.
+    MastersReachManagementMemory,
+    /// A0000h-BFFFFh goes to VGA with graphics off.
+    VgaWithoutGraphics,
+    /// Management mode reaches taken memory.
+    ManagementReachesTakenMemory,
+    /// The error bit is set for taken memory.
+    ErrorForTakenMemory,
+    /// The error bit is set for hub masters.
+    ErrorForMasters,
+    /// The error bit is set for reads only.
+    ErrorForReadsOnly,
+    /// The window is found before the registers.
+    WindowBeforeRegisters,
+    /// A window at address 0 is taken for none.
+    WindowAtZeroIgnored,
+
+    // Memory-mapped registers.
+    /// An access inside a listed register counts as the register.
+    PartOfRegisterAccepted,
+    /// A table entry keeps all 32 bits.
+    EntryStoredWhole,
+
+    // Translation.
+    /// Translation does not look at protection.
+    ProtectionNotChecked,
+    /// Protection is asked of the window offset and not of the entry's page.
+    ProtectionOfOffset,
+    /// Management mode reaches protected pages through the window.
+    ManagementExemptInWindow,
+    /// Pages are protected only once SMRAM is locked.
+    ProtectedOnlyWhenLocked,
+    /// Taken memory is protected.
+    TakenMemoryProtected,
+    /// The last page below TOM is refused with code 7.
+    LastPageRefused,
+    /// An invalid entry of type 01 or 10 is refused with code 5 and not 4.
+    TypeBeforeValid,
+    /// Codes 4 and 5 are exchanged.
+    Codes4And5Exchanged,
+    /// Code 3 is given where 9 also holds.
+    TranslationBeforeFence,
+    /// Entries of type 11 are refused with code 5.
+    Type11Refused,
+
+    // Fences.
+    /// The highest matching fence wins.
+    HighestFenceWins,
+    /// An ill-formed fence is passed over.
+    IllFormedFenceSkipped,
+    /// A start that is no multiple of the size is accepted.
+    FenceStartNotChecked,
+    /// Sixteen rows of a tile are taken for eight.
+    TileOfEightRows,
+
+    // Ring.
+    /// The parser's fetch goes through the fences.
+    FetchFenced,
+    /// The wraps do not count up.
+    WrapNotCounted,
+    /// The wraps stop at 2,047.
+    WrapsSaturate,
+    /// The count includes the refused step.
+    RefusedStepCounted,
+    /// A step moves the head to the tail.
+    StepConsumesRing,
+    /// Head and tail that are equal but out of range end the run with code 0.
+    EmptyBeforeRange,
+    /// A run of budget 0 checks the ring.
+    BudgetZeroChecks,
+    /// The parser's window is always 64 MiB.
+    ParserWindowAlways64,
+    /// A run does nothing with graphics off.
+    RunNeedsGraphics,
+    /// The ring is one page shorter.
+    RingPagesNotPlusOne,
+    /// An instruction's bits 22:0 must be zero.
+    InstructionLowBitsChecked,
+
+    // Interrupts.
+    /// A user interrupt sets the identity bit although the mask holds it back.
+    MaskIgnored,
+    /// A user interrupt that the mask held back is raised when the mask opens.
+    MaskedInterruptStaysPending,
+    /// A user interrupt sets the identity bit only if the enable bit is set.
+    EnableGatesIdentity,
+}

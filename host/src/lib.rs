@@ -1,0 +1,37 @@
+//! The Rust host of a machine-proved model of Intel's 82810 and 82810-DC100 graphics hub (GMCH):
+//! configuration registers, address routing, translation table, fences, ring parser, interrupts.
+//!
+//! The model is one C function, which replays a list of records from a cold start and answers each.
+//! [`record`] writes and reads the lists, [`call`] makes the call, and [`reference`] is the same
+//! replay in ordinary Rust, written from the papers alone, to compare the model with.
+//!
+//! The whole case of document 01: select register 0 of device 0, then read its two ids.
+//!
+//! ```
+//! use mitrophel::{record, replay, Record, Target};
+//!
+//! let records = record::encode(&[
+//!     Record::io_write(0xCF8, 4, 0x8000_0000),
+//!     Record::io_read(0xCFC, 4),
+//! ]);
+//! let mut memory = vec![0; 8 << 20];
+//! let mut answers = vec![0; records.len()];
+//! replay(0, &mut memory, &records, &mut answers)?;
+//!
+//! let id = record::decode_answers(&answers).last().expect("two records, two answers");
+//! assert_eq!(id.refusal(), None);
+//! assert_eq!(id.target(), Some(Target::Register));
+//! assert_eq!(id.value, 0x7120_8086);
+//! # Ok::<(), mitrophel::Refused>(())
+//! ```
+
+#![deny(unsafe_code)]
+#![warn(missing_docs)]
+
+pub mod call;
+pub mod faults;
+pub mod record;
+pub mod reference;
+
+pub use call::{replay, Refused};
+pub use record::{Answer, Kind, Record, Refusal, Target};

@@ -1,0 +1,249 @@
+//! The replay in ordinary Rust, from document 01 section by section.
+//!
+//! It is what the proved call is compared with, and what its speed is measured against. It shares no
+//! text with the model's definitions. Every index is bounds-checked, and the only memory it makes is
+//! the translation table, on the stack.
+//!
+//! Each function quotes the sentence that it implements. `wrong` asks for a deliberate [`Fault`] and
+//! is constantly false in [`replay`].
+
+mod configuration;
+mod observe;
+mod registers;
+mod ring;
+mod routing;
+mod window;
+
+pub use configuration::{Lsmm, Smram};
+pub use observe::{Observer, Rule, Touch, Unobserved};
+pub use ring::Ring;
+pub use window::Fence;
+
+use crate::faults::{Fault, Faultless, Faults};
+use crate::record::{Answer, Kind, Record, Refusal, Target, MAX_RECORDS, RECORD_BYTES};
+use configuration::{default_bytes, DEVICE_IDS};
+use routing::Mode;
+
+const KIB: u32 = 1 << 10;
+const MIB: u32 = 1 << 20;
+
+/// "The translation table is 16,384 words of 32 bits".
+pub const TABLE_WORDS: usize = 16_384;
+
+/// The translation table (GTT).
+pub type Table = [u32; TABLE_WORDS];
+
+/// Replays all records from a cold start: 0, or 1 where the arguments are wrong.
+///
+/// "Each call is a cold start, replays all records in order and returns 0."
+pub fn replay(board: u32, memory: &mut [u8], records: &[u8], answers: &mut [u8]) -> u32 {
+    replay_with(board, memory, records, answers, Unobserved, Faultless)
+}
+
+/// [`replay`] with an observer and faults.
+pub fn replay_with<O: Observer, F: Faults>(
+    board: u32,
+    memory: &mut [u8],
+    records: &[u8],
+    answers: &mut [u8],
+    observer: O,
+    faults: F,
+) -> u32 {
+    const WRONG: u32 = Refusal::Arguments.code() as u32;
+    // "record length (not 16n, or n over 65,535) or answer length wrong"
+    let (list, rest) = records.as_chunks::<RECORD_BYTES>();
+    if !rest.is_empty() || list.len() > MAX_RECORDS || answers.len() != records.len() {
+        return WRONG;
+    }
+    let mut table = [0; TABLE_WORDS];
+    let Some(mut hub) = Hub::new(board, memory, &mut table, observer, faults) else {
+        return WRONG;
+    };
+    for (record, answer) in list.iter().zip(answers.as_chunks_mut::<RECORD_BYTES>().0) {
+        *answer = hub.answer(&Record::from_bytes(record)).to_bytes();
+    }
+    0
+}
+
+/// A read or write of 1, 2 or 4 bytes inside one aligned word.
+#[derive(Clone, Copy)]
+struct Access {
+    address: u32,
+    width: u32,
+    /// What a write stores; none for a read.
+    data: Option<u32>,
+}
+
+/// The hub between two records.
+pub struct Hub<'m, O = Unobserved, F = Faultless> {
+    memory: &'m mut [u8],
+    table: &'m mut Table,
+    tom: u32,
+    board: usize,
+    /// CF8h
+    config_address: u32,
+    devices: [[u8; 256]; 2],
+    /// Bytes of device 1's 2C to 2F that a write has touched, bit 0 for 2C.
+    subsystem_written: u8,
+    fences: [Fence; 8],
+    table_control: u32,
+    ring: Ring,
+    interrupt_enable: u16,
+    interrupt_identity: u16,
+    interrupt_mask: u16,
+    observer: O,
+    faults: F,
+}
+
+impl<'m, O: Observer, F: Faults> Hub<'m, O, F> {
+    /// The hub at cold start; none where the board kind or the memory's length is wrong. The table
+    /// must be all zero, as it is at cold start.
+    ///
+    /// "its length is TOM: a multiple of 8 MiB, 8 to 512 MiB. Board kind 0 is 82810, 1 is DC100."
+    pub fn new(board: u32, memory: &'m mut [u8], table: &'m mut Table, observer: O, faults: F) -> Option<Self> {
+        let board = usize::try_from(board).ok().filter(|&kind| kind < DEVICE_IDS.len())?;
+        let tom = u32::try_from(memory.len()).ok()?;
+        if !tom.is_multiple_of(8 * MIB) || !(8 * MIB..=512 * MIB).contains(&tom) {
+            return None;
+        }
+        let mut hub = Hub {
+            memory,
+            table,
+            tom,
+            board,
+            config_address: 0,
+            devices: [[0; 256]; 2],
+            subsystem_written: 0,
+            fences: [Fence(0); 8],
+            table_control: 0,
+            ring: Ring::default(),
+            interrupt_enable: 0,
+            interrupt_identity: 0,
+            interrupt_mask: 0,
+            observer,
+            faults,
+        };
+        hub.restore_defaults();
+        Some(hub)
+    }
+
+    /// "Reset restores defaults and zeroes the table; memory stays."
+    fn reset(&mut self) {
+        let smram = self.smram();
+        self.restore_defaults();
+        if !self.wrong(Fault::ResetKeepsTable) {
+            self.table.fill(0);
+        }
+        if smram.locked() && self.wrong(Fault::ResetKeepsLock) {
+            self.put_back(smram);
+        }
+    }
+
+    fn restore_defaults(&mut self) {
+        self.config_address = 0;
+        self.devices = [default_bytes(self.board, 0), default_bytes(self.board, 1)];
+        self.subsystem_written = 0;
+        self.fences = [Fence(0); 8];
+        self.table_control = 0;
+        self.ring = Ring::default();
+        self.interrupt_enable = 0;
+        self.interrupt_identity = 0;
+        // "All listed registers default to 0 but 20A8h."
+        self.interrupt_mask = 0xFFFF;
+    }
+
+    /// Carries out one record and answers it.
+    #[inline]
+    pub fn answer(&mut self, record: &Record) -> Answer {
+        let line_before = self.line();
+        // "Any other refusal changes no register, table word or memory byte; its answer holds the
+        // code and the interrupt line, all else zero."
+        let mut answer =
+            self.carry_out(record).unwrap_or_else(|refusal| Answer { code: refusal.code(), ..Answer::default() });
+        answer.line = u8::from(self.line());
+        if self.wrong(Fault::LineBeforeAccess) {
+            answer.line = u8::from(line_before);
+        }
+        if self.wrong(Fault::RefusalWithoutLine) && answer.code != 0 {
+            answer.line = 0;
+        }
+        self.observer.answered(record, &answer);
+        answer
+    }
+
+    /// "Order: 13, 2, then routing".
+    #[inline]
+    fn carry_out(&mut self, record: &Record) -> Result<Answer, Refusal> {
+        if self.wrong(Fault::WidthBeforeLayout) && record.kind().is_some_and(Kind::is_access) {
+            self.check_width(record)?;
+        }
+        let kind = record.kind().filter(|_| record.keeps_layout()).ok_or(Refusal::Layout)?;
+        if kind.is_access() {
+            self.check_width(record)?;
+        }
+        let access = Access {
+            address: record.address,
+            width: u32::from(record.width),
+            data: kind.is_write().then_some(record.data),
+        };
+        let management = record.is_management();
+        match kind {
+            Kind::IoRead | Kind::IoWrite => Ok(self.port(access)),
+            Kind::DataRead | Kind::Write => self.addressed(access, Mode::Processor { management, code: false }),
+            Kind::CodeRead => self.addressed(access, Mode::Processor { management, code: true }),
+            Kind::MasterRead | Kind::MasterWrite => self.addressed(access, Mode::Master),
+            Kind::Run => Ok(self.run(record.data)),
+            Kind::Reset => {
+                self.reset();
+                Ok(Answer::default())
+            }
+        }
+    }
+
+    /// Code 2: "width not 1, 2, 4, or the access crosses an aligned 4-byte word".
+    #[inline]
+    fn check_width(&self, record: &Record) -> Result<(), Refusal> {
+        let width = u32::from(record.width);
+        let within = record.address % 4 + width <= 4;
+        let aligned = !self.wrong(Fault::NaturalAlignmentAsked) || record.address & width.wrapping_sub(1) == 0;
+        match width {
+            1 | 2 | 4 if within && aligned => Ok(()),
+            _ => Err(Refusal::Width),
+        }
+    }
+
+    /// Whether this replay has the fault; always false in the reference itself.
+    #[inline(always)]
+    fn wrong(&self, fault: Fault) -> bool {
+        self.faults.has(fault)
+    }
+
+    /// A fence register; none past number 7.
+    pub fn fence(&self, number: usize) -> Option<Fence> {
+        self.fences.get(number).copied()
+    }
+
+    /// TOM, the memory's length.
+    #[inline]
+    pub fn tom(&self) -> u32 {
+        self.tom
+    }
+
+    /// The memory lent.
+    #[inline]
+    pub fn memory(&self) -> &[u8] {
+        self.memory
+    }
+
+    /// The observer.
+    #[inline]
+    pub fn observer(&mut self) -> &mut O {
+        &mut self.observer
+    }
+}
+
+/// An access that was answered; the line is filled in at the end.
+#[inline]
+fn reached(target: Target, address: u32, value: u32) -> Answer {
+    Answer { target: target.number(), address, value, ..Answer::default() }
+}

@@ -1,0 +1,348 @@
+//! Configuration space: CF8h, the registers of the two devices, SMRAM (document 01, "Configuration
+//! space").
+
+use super::{reached, Access, Hub, Observer, Rule, KIB, MIB};
+use crate::faults::{Fault, Faults};
+use crate::record::{Answer, Target};
+
+/// One register of "a fixed table of default and writable bits".
+struct Row {
+    at: usize,
+    bytes: usize,
+    default: u32,
+    /// Bits that take the data written.
+    plain: u32,
+    /// Bits that clear on 1.
+    clears: u32,
+}
+
+const fn row(at: usize, bytes: usize, default: u32, plain: u32, clears: u32) -> Row {
+    Row { at, bytes, default, plain, clears }
+}
+
+/// Device 0. The device id at 02 is the 82810's; see [`DEVICE_IDS`].
+const DEVICE_0: [Row; 10] = [
+    row(0x00, 2, 0x8086, 0, 0),
+    row(0x02, 2, 0x7120, 0, 0),
+    row(0x04, 2, 0x0006, 0x0100, 0),
+    row(0x06, 2, 0x0080, 0, 0x7000),
+    row(0x08, 1, 0x02, 0, 0),
+    row(0x0B, 1, 0x06, 0, 0),
+    row(SMRAM, 1, 0x00, 0xFE, 0x01),
+    row(MISCC, 2, 0x0000, 0x0001, 0),
+    row(0x80, 1, 0x00, 0xFF, 0),
+    row(0x92, 2, 0xFFFF, 0xFFFF, 0),
+];
+
+/// Device 1.
+const DEVICE_1: [Row; 14] = [
+    row(0x00, 2, 0x8086, 0, 0),
+    row(0x02, 2, 0x7121, 0, 0),
+    row(COMMAND, 2, 0x0004, 0x0003, 0),
+    row(0x0B, 1, 0x03, 0, 0),
+    row(GMADR, 4, 0x0000_0008, 0xFE00_0000, 0),
+    row(MMADR, 4, 0x0000_0000, 0xFFF8_0000, 0),
+    row(0x2C, 2, 0x0000, 0xFFFF, 0),
+    row(0x2E, 2, 0x0000, 0xFFFF, 0),
+    row(0x34, 1, 0xDC, 0, 0),
+    row(0x3C, 1, 0x00, 0xFF, 0),
+    row(0x3D, 1, 0x01, 0, 0),
+    row(0xDC, 2, 0x0001, 0, 0),
+    row(0xDE, 2, 0x0021, 0, 0),
+    row(0xE0, 2, 0x0000, 0x0103, 0),
+];
+
+/// "02 7120h/7122h" and "02 7121h/7123h": by board kind, then by device.
+pub(super) const DEVICE_IDS: [[u16; 2]; 2] = [[0x7120, 0x7121], [0x7122, 0x7123]];
+
+const SMRAM: usize = 0x70;
+const MISCC: usize = 0x72;
+const COMMAND: usize = 0x04;
+const GMADR: usize = 0x10;
+const MMADR: usize = 0x14;
+
+/// A device's rows, byte by byte; "unlisted: read 0, writes ignored".
+struct Layout {
+    default: [u8; 256],
+    plain: [u8; 256],
+    clears: [u8; 256],
+}
+
+const fn layout(rows: &[Row]) -> Layout {
+    let mut layout = Layout { default: [0; 256], plain: [0; 256], clears: [0; 256] };
+    let mut r = 0;
+    while r < rows.len() {
+        let row = &rows[r];
+        let mut i = 0;
+        while i < row.bytes {
+            layout.default[row.at + i] = (row.default >> (8 * i)) as u8;
+            layout.plain[row.at + i] = (row.plain >> (8 * i)) as u8;
+            layout.clears[row.at + i] = (row.clears >> (8 * i)) as u8;
+            i += 1;
+        }
+        r += 1;
+    }
+    layout
+}
+
+static LAYOUTS: [Layout; 2] = [layout(&DEVICE_0), layout(&DEVICE_1)];
+
+/// A device's 256 bytes at cold start.
+pub(super) fn default_bytes(board: usize, device: usize) -> [u8; 256] {
+    let mut bytes = LAYOUTS[device].default;
+    bytes[2..4].copy_from_slice(&DEVICE_IDS[board][device].to_le_bytes());
+    bytes
+}
+
+/// Device 0 register 70.
+#[derive(Clone, Copy, Debug, PartialEq, Eq)]
+pub struct Smram(pub u8);
+
+/// "3:2 LSMM (off; general memory; management code reads only; management all)"
+#[derive(Clone, Copy, Debug, PartialEq, Eq)]
+pub enum Lsmm {
+    /// 00
+    Off,
+    /// 01
+    General,
+    /// 10
+    ManagementCodeReads,
+    /// 11
+    ManagementAll,
+}
+
+impl Smram {
+    const LOCK: u8 = 0x02;
+    const ERROR: u8 = 0x01;
+
+    /// GMS is not 00.
+    #[inline]
+    pub const fn graphics_on(self) -> bool {
+        self.0 >> 6 != 0
+    }
+
+    /// G: "graphics off; on, 0 taken; 512 KiB; 1 MiB". Taken memory is also called stolen memory.
+    #[inline]
+    pub const fn taken_bytes(self) -> u32 {
+        match self.0 >> 6 {
+            0 | 1 => 0,
+            2 => 512 * KIB,
+            _ => MIB,
+        }
+    }
+
+    /// T: "none; HSEG; 512 KiB TSEG and HSEG; 1 MiB TSEG and HSEG".
+    #[inline]
+    pub const fn tseg_bytes(self) -> u32 {
+        match self.0 >> 4 & 3 {
+            0 | 1 => 0,
+            2 => 512 * KIB,
+            _ => MIB,
+        }
+    }
+
+    /// USMM is not 00.
+    #[inline]
+    pub(super) const fn has_hseg(self) -> bool {
+        self.0 >> 4 & 3 != 0
+    }
+
+    /// "HSEG acts only if LSMM is 00."
+    #[inline]
+    pub const fn hseg_acts(self) -> bool {
+        self.has_hseg() && matches!(self.lsmm(), Lsmm::Off)
+    }
+
+    /// LSMM, bits 3:2.
+    #[inline]
+    pub const fn lsmm(self) -> Lsmm {
+        match self.0 >> 2 & 3 {
+            0 => Lsmm::Off,
+            1 => Lsmm::General,
+            2 => Lsmm::ManagementCodeReads,
+            _ => Lsmm::ManagementAll,
+        }
+    }
+
+    /// Bit 1.
+    #[inline]
+    pub const fn locked(self) -> bool {
+        self.0 & Smram::LOCK != 0
+    }
+}
+
+impl<O: Observer, F: Faults> Hub<'_, O, F> {
+    /// An I/O access. "CF8h takes 4-byte accesses only ... If bit 31 is set, CFCh-CFFh reach bus
+    /// 23:16, device 15:11, function 10:8 ... All else, narrower CF8h accesses and every other port,
+    /// goes to the hub."
+    pub(super) fn port(&mut self, access: Access) -> Answer {
+        match access.address {
+            0xCF8 if access.width == 4 => self.config_address_port(access),
+            0xCF8..=0xCFB if self.wrong(Fault::NarrowConfigAddressAccepted) => self.config_address_port(access),
+            0xCFC..=0xCFF => match self.selected_device() {
+                Some(device) => self.config_data_port(device, access),
+                None => self.other_port(access),
+            },
+            _ => self.other_port(access),
+        }
+    }
+
+    fn other_port(&mut self, access: Access) -> Answer {
+        self.observer.routed(Rule::OtherPort);
+        reached(Target::Hub, access.address, 0)
+    }
+
+    /// "stores data AND 80FFFFFCh (default 0)"
+    fn config_address_port(&mut self, access: Access) -> Answer {
+        self.observer.routed(Rule::ConfigAddress);
+        match access.data {
+            None => reached(Target::Register, access.address, self.config_address),
+            Some(data) => {
+                self.config_address = data & 0x80FF_FFFC;
+                reached(Target::Register, access.address, 0)
+            }
+        }
+    }
+
+    /// "Bus 0 function 0 device 0 is ours; device 1 too while GMS is not 00."
+    fn selected_device(&self) -> Option<usize> {
+        // Bit 31, the bus and the function.
+        if self.config_address & 0x80FF_0700 != 0x8000_0000 {
+            return None;
+        }
+        match self.config_address >> 11 & 0x1F {
+            0 => Some(0),
+            1 if self.smram().graphics_on() || self.wrong(Fault::DeviceOneAlwaysVisible) => Some(1),
+            _ => None,
+        }
+    }
+
+    /// "register 7:2 plus the port's low two bits"; the target's address is "device x 256 + register".
+    fn config_data_port(&mut self, device: usize, access: Access) -> Answer {
+        self.observer.routed(if device == 0 { Rule::DeviceZero } else { Rule::DeviceOne });
+        let register = (self.config_address & 0xFC | access.address & 3) as usize;
+        let value = match access.data {
+            None => self.config_read(device, register, access.width as usize),
+            Some(data) => {
+                self.config_write(device, register, access.width as usize, data);
+                0
+            }
+        };
+        reached(Target::Register, (device * 256 + register) as u32, value)
+    }
+
+    fn config_read(&self, device: usize, register: usize, width: usize) -> u32 {
+        let touched = register..register + width;
+        let mut value = [0; 4];
+        value[..width].copy_from_slice(&self.devices[device][touched.clone()]);
+        // "At 64, GMADR bit 25 is kept but reads and counts as 0": bit 1 of byte 13.
+        let masked = self.window_is_64() && !self.wrong(Fault::Bit25Reads);
+        if device == 1 && touched.contains(&(GMADR + 3)) && masked {
+            value[GMADR + 3 - register] &= !0x02;
+        }
+        u32::from_le_bytes(value)
+    }
+
+    /// "A write touches only its bytes."
+    fn config_write(&mut self, device: usize, register: usize, width: usize, data: u32) {
+        let touched = register..register + width;
+        let written = self.subsystem_written;
+        for (at, byte) in touched.zip(data.to_le_bytes()) {
+            let mut plain = LAYOUTS[device].plain[at];
+            let mut clears = LAYOUTS[device].clears[at];
+            match (device, at) {
+                (0, SMRAM) => (plain, clears) = self.smram_masks(byte, plain, clears),
+                (1, 0x2C..=0x2F) => {
+                    plain = self.subsystem_mask(at - 0x2C, written);
+                    self.subsystem_written |= 1 << (at - 0x2C);
+                }
+                _ => {}
+            }
+            let old = self.devices[device][at];
+            self.devices[device][at] = (old & !plain | byte & plain) & !(byte & clears);
+        }
+    }
+
+    /// "The write that sets the lock takes its other bits too; afterwards only bit 0 obeys writes,
+    /// until reset": the plain and the clearing bits of SMRAM for this write.
+    fn smram_masks(&self, byte: u8, plain: u8, clears: u8) -> (u8, u8) {
+        if self.smram().locked() && !self.wrong(Fault::LockDoesNotHold) {
+            (0, clears)
+        } else if byte & Smram::LOCK != 0 && self.wrong(Fault::LockingWriteTakesNothingElse) {
+            (Smram::LOCK, clears)
+        } else if self.wrong(Fault::ErrorBitPlain) {
+            (plain | Smram::ERROR, 0)
+        } else {
+            (plain, clears)
+        }
+    }
+
+    /// "2C and 2E ... write once: the first write touching either byte is taken for the bytes it
+    /// touches, and the 16 bits are then fixed until reset". `written` is as the write found it.
+    fn subsystem_mask(&self, byte: usize, written: u8) -> u8 {
+        let own = if self.wrong(Fault::WriteOncePerByte) { 1 << byte } else { 0b11 << (byte & 2) };
+        match written & own {
+            0 => 0xFF,
+            _ => 0,
+        }
+    }
+
+    /// Sets SMRAM's error bit, which the lock does not hold: it stops writes only.
+    pub(super) fn set_error(&mut self, access: Access) {
+        let frozen = self.smram().locked() && self.wrong(Fault::ErrorBitFrozenByLock);
+        let passed_over = access.data.is_some() && self.wrong(Fault::ErrorForReadsOnly);
+        if !frozen && !passed_over {
+            self.devices[0][SMRAM] |= Smram::ERROR;
+        }
+    }
+
+    /// Puts a locked SMRAM back after a reset ([`Fault::ResetKeepsLock`]).
+    pub(super) fn put_back(&mut self, smram: Smram) {
+        self.devices[0][SMRAM] = smram.0;
+    }
+
+    /// SMRAM, device 0 register 70.
+    #[inline]
+    pub fn smram(&self) -> Smram {
+        Smram(self.devices[0][SMRAM])
+    }
+
+    /// "Register 72 bit 0: window 32 MiB if 1, else 64."
+    #[inline]
+    fn window_is_64(&self) -> bool {
+        self.devices[0][MISCC] & 1 == 0
+    }
+
+    /// The window's size.
+    #[inline]
+    pub fn window_bytes(&self) -> u32 {
+        match self.window_is_64() {
+            true => 64 * MIB,
+            false => 32 * MIB,
+        }
+    }
+
+    /// The window's base: GMADR bits 31:25, of which bit 25 "counts as 0" at 64 MiB.
+    #[inline]
+    pub fn window_base(&self) -> u32 {
+        let bits = if self.wrong(Fault::Bit25Counts) { 0xFE00_0000 } else { !(self.window_bytes() - 1) };
+        self.device_word(1, GMADR) & bits
+    }
+
+    /// The base of the memory-mapped registers: MMADR bits 31:19.
+    #[inline]
+    pub fn registers_base(&self) -> u32 {
+        self.device_word(1, MMADR) & 0xFFF8_0000
+    }
+
+    /// Rules 7 and 8 act "only if GMS is not 00 and device 1 register 04 bit 1 is set".
+    #[inline]
+    pub fn graphics_decodes(&self) -> bool {
+        self.smram().graphics_on() && self.devices[1][COMMAND] & 2 != 0
+    }
+
+    #[inline]
+    fn device_word(&self, device: usize, register: usize) -> u32 {
+        u32::from_le_bytes(*self.devices[device][register..].first_chunk().expect("four of 256 bytes"))
+    }
+}

@@ -1,0 +1,166 @@
+//! The memory-mapped registers (document 01, "Table, fences, ring, interrupts").
+
+use super::{reached, Access, Fence, Hub, Observer};
+use crate::faults::{Fault, Faults};
+use crate::record::{Answer, Refusal, Target};
+
+/// The listed registers.
+#[derive(Clone, Copy, Debug, PartialEq, Eq)]
+enum Listed {
+    /// FENCE, 2000h to 201Ch
+    Fence(usize),
+    /// PGTBL_CTL, 2020h
+    TableControl,
+    /// LP_RING tail, 2030h
+    RingTail,
+    /// LP_RING head, 2034h
+    RingHead,
+    /// LP_RING start, 2038h
+    RingStart,
+    /// LP_RING length, 203Ch
+    RingLength,
+    /// IER, 20A0h
+    InterruptEnable,
+    /// IIR, 20A4h
+    InterruptIdentity,
+    /// IMR, 20A8h
+    InterruptMask,
+    /// ISR, 20ACh
+    InterruptStatus,
+    /// A word of the translation table (GTT), 10000h to 1FFFCh
+    Entry(usize),
+}
+
+impl Listed {
+    /// The register in the aligned word at `offset`, if one is listed there: "fences 2000h to 201Ch
+    /// and 2020h, 2030h, 2034h, 2038h, 203Ch, 10000h-1FFFCh, four bytes each; 20A0h, 20A4h, 20A8h,
+    /// 20ACh, two bytes each". Each starts where its word does.
+    #[inline]
+    const fn in_word(offset: u32) -> Option<Listed> {
+        Some(match offset & !3 {
+            word @ 0x1_0000..=0x1_FFFC => Listed::Entry((word - 0x1_0000) as usize / 4),
+            word @ 0x2000..=0x201C => Listed::Fence((word - 0x2000) as usize / 4),
+            0x2020 => Listed::TableControl,
+            0x2030 => Listed::RingTail,
+            0x2034 => Listed::RingHead,
+            0x2038 => Listed::RingStart,
+            0x203C => Listed::RingLength,
+            0x20A0 => Listed::InterruptEnable,
+            0x20A4 => Listed::InterruptIdentity,
+            0x20A8 => Listed::InterruptMask,
+            0x20AC => Listed::InterruptStatus,
+            _ => return None,
+        })
+    }
+
+    #[inline]
+    const fn bytes(self) -> u32 {
+        match self {
+            Listed::InterruptEnable | Listed::InterruptIdentity | Listed::InterruptMask | Listed::InterruptStatus => 2,
+            _ => 4,
+        }
+    }
+}
+
+/// "Entry i (10000h + 4i) stores data AND 3FFFF007h".
+const ENTRY_BITS: u32 = 0x3FFF_F007;
+/// "2020h keeps 31:12 and bit 0"
+const TABLE_CONTROL_BITS: u32 = 0xFFFF_F001;
+/// "2030h tail 20:3"
+const RING_TAIL_BITS: u32 = 0x001F_FFF8;
+/// "2034h head, wraps 31:21, offset 20:2"
+const RING_HEAD_BITS: u32 = 0xFFFF_FFFC;
+/// "2038h start 25:12"
+const RING_START_BITS: u32 = 0x03FF_F000;
+/// "203Ch pages less one 20:12, enable 0"
+const RING_LENGTH_BITS: u32 = 0x001F_F001;
+/// "A user interrupt sets identity bit 1".
+const USER_INTERRUPT: u16 = 1 << 1;
+
+impl<O: Observer, F: Faults> Hub<'_, O, F> {
+    /// Code 10: "access touches a listed memory-mapped register without being exactly it". Others
+    /// "read 0, ignore writes".
+    #[inline]
+    pub(super) fn register_access(&mut self, offset: u32, access: Access) -> Result<Answer, Refusal> {
+        let value = match Listed::in_word(offset) {
+            Some(listed) if offset % 4 < listed.bytes() => {
+                let exact = offset.is_multiple_of(4) && access.width == listed.bytes();
+                let inside = offset % 4 + access.width <= listed.bytes();
+                if !(exact || inside && self.wrong(Fault::PartOfRegisterAccepted)) {
+                    return Err(Refusal::NotExactlyRegister);
+                }
+                match access.data {
+                    None => self.register_read(listed),
+                    Some(data) => {
+                        self.register_write(listed, data);
+                        0
+                    }
+                }
+            }
+            _ => 0,
+        };
+        Ok(reached(Target::MemoryMapped, offset, value))
+    }
+
+    #[inline]
+    fn register_read(&self, listed: Listed) -> u32 {
+        match listed {
+            Listed::Fence(i) => self.fences[i].0,
+            Listed::TableControl => self.table_control,
+            Listed::RingTail => self.ring.tail,
+            Listed::RingHead => self.ring.head,
+            Listed::RingStart => self.ring.start,
+            Listed::RingLength => self.ring.length,
+            Listed::InterruptEnable => u32::from(self.interrupt_enable),
+            Listed::InterruptIdentity => u32::from(self.interrupt_identity),
+            Listed::InterruptMask => u32::from(self.interrupt_mask),
+            // "20ACh reads 0 and ignores writes"
+            Listed::InterruptStatus => 0,
+            Listed::Entry(i) => self.table[i],
+        }
+    }
+
+    #[inline]
+    fn register_write(&mut self, listed: Listed, data: u32) {
+        match listed {
+            Listed::Fence(i) => self.fences[i] = Fence(data & Fence::BITS),
+            Listed::TableControl => self.table_control = data & TABLE_CONTROL_BITS,
+            Listed::RingTail => self.ring.tail = data & RING_TAIL_BITS,
+            Listed::RingHead => self.ring.head = data & RING_HEAD_BITS,
+            Listed::RingStart => self.ring.start = data & RING_START_BITS,
+            Listed::RingLength => self.ring.length = data & RING_LENGTH_BITS,
+            // "20A0h enable, 20A8h mask (FFFFh), both plain, 20A4h identity (write 1 clears)"
+            Listed::InterruptEnable => self.interrupt_enable = data as u16,
+            Listed::InterruptIdentity => self.interrupt_identity &= !(data as u16),
+            Listed::InterruptMask => {
+                self.interrupt_mask = data as u16;
+                if self.interrupt_mask & USER_INTERRUPT == 0 && self.faults.take_interrupt() {
+                    self.interrupt_identity |= USER_INTERRUPT;
+                }
+            }
+            Listed::InterruptStatus => {}
+            Listed::Entry(i) if self.wrong(Fault::EntryStoredWhole) => self.table[i] = data,
+            Listed::Entry(i) => self.table[i] = data & ENTRY_BITS,
+        }
+    }
+
+    /// "A user interrupt sets identity bit 1 if mask bit 1 is 0."
+    #[inline]
+    pub(super) fn user_interrupt(&mut self) {
+        let masked = self.interrupt_mask & USER_INTERRUPT != 0;
+        let disabled = self.interrupt_enable & USER_INTERRUPT == 0;
+        if masked && self.wrong(Fault::MaskedInterruptStaysPending) {
+            self.faults.hold_interrupt();
+        }
+        let lost = masked && !self.wrong(Fault::MaskIgnored) || disabled && self.wrong(Fault::EnableGatesIdentity);
+        if !lost {
+            self.interrupt_identity |= USER_INTERRUPT;
+        }
+    }
+
+    /// "Line = identity AND enable nonzero".
+    #[inline]
+    pub(super) fn line(&self) -> bool {
+        self.interrupt_identity & self.interrupt_enable != 0
+    }
+}

@@ -1,0 +1,162 @@
+//! The ring parser (document 01, "Table, fences, ring, interrupts").
+
+use super::{Hub, Observer, Touch, KIB, MIB};
+use crate::faults::{Fault, Faults};
+use crate::record::{Answer, Refusal};
+
+/// The ring's four registers.
+#[derive(Clone, Copy, Debug, Default, PartialEq, Eq)]
+pub struct Ring {
+    /// 2030h
+    pub tail: u32,
+    /// 2034h
+    pub head: u32,
+    /// 2038h
+    pub start: u32,
+    /// 203Ch
+    pub length: u32,
+}
+
+impl Ring {
+    /// 203Ch bit 0.
+    #[inline]
+    pub const fn enabled(&self) -> bool {
+        self.length & 1 != 0
+    }
+
+    /// "pages less one 20:12": 4 KiB to 2 MiB.
+    #[inline]
+    pub const fn bytes(&self) -> u32 {
+        (self.length & 0x001F_F000) + 4 * KIB
+    }
+
+    /// The head's "offset 20:2".
+    #[inline]
+    pub const fn head_offset(&self) -> u32 {
+        self.head & 0x001F_FFFC
+    }
+
+    /// The head's "wraps 31:21".
+    #[inline]
+    pub const fn wraps(&self) -> u32 {
+        self.head >> 21
+    }
+}
+
+impl<O: Observer, F: Faults> Hub<'_, O, F> {
+    /// "a run takes step after step until it ends so, a step is refused, or the budget is used up,
+    /// which is code 0 with nothing further checked. Count = completed steps". "A parser run gives
+    /// target 0, the head register afterwards as address, value 0 and the count."
+    pub(super) fn run(&mut self, budget: u32) -> Answer {
+        let mut answer = Answer::default();
+        if budget == 0 && self.wrong(Fault::BudgetZeroChecks) {
+            answer.code = self.next_word().map_or_else(Refusal::code, |_| 0);
+        }
+        // "A run ignores GMS".
+        let idle = self.wrong(Fault::RunNeedsGraphics) && !self.smram().graphics_on();
+        while answer.count < budget && !idle {
+            match self.step() {
+                Ok(true) => answer.count += 1,
+                Ok(false) => break,
+                Err(refusal) => {
+                    answer.code = refusal.code();
+                    answer.count += u32::from(self.wrong(Fault::RefusedStepCounted));
+                    break;
+                }
+            }
+        }
+        answer.address = self.ring.head;
+        answer
+    }
+
+    /// One step: true if it was completed, false where the run ends by itself.
+    #[inline]
+    fn step(&mut self) -> Result<bool, Refusal> {
+        let Some(address) = self.next_word()? else {
+            return Ok(false);
+        };
+        self.observer.touched(Touch { address, width: 4, write: false, protected: self.protected(address) });
+        let at = address as usize;
+        let word = u32::from_le_bytes(*self.memory[at..].first_chunk().expect("four bytes of a page below TOM"));
+        self.execute(word)?;
+        self.advance();
+        Ok(true)
+    }
+
+    /// The physical address of the word at the head; none where the ring is "not enabled (seen before
+    /// code 11), or offsets equal". The codes come in the order "11, then empty check, then 8, 3, 4,
+    /// 5, 7, 6". "A step fetches the word at start + offset, unfenced."
+    #[inline]
+    fn next_word(&self) -> Result<Option<u32>, Refusal> {
+        let Ring { tail, start, .. } = self.ring;
+        let head = self.ring.head_offset();
+        if !self.ring.enabled() || head == tail && self.wrong(Fault::EmptyBeforeRange) {
+            return Ok(None);
+        }
+        let bytes = self.ring_bytes();
+        if head >= bytes || tail >= bytes {
+            return Err(Refusal::RingOffset);
+        }
+        if head == tail {
+            return Ok(None);
+        }
+        let offset = start + head;
+        let window = if self.wrong(Fault::ParserWindowAlways64) { 64 * MIB } else { self.window_bytes() };
+        if offset >= window {
+            return Err(Refusal::OutsideWindow);
+        }
+        let offset = if self.wrong(Fault::FetchFenced) { self.fenced(offset)? } else { offset };
+        self.translate(offset).map(Some)
+    }
+
+    /// "Bits 31:29 zero and 28:23: 00h nothing, 02h user interrupt, 04h flush (nothing), else 12;
+    /// other bits are not looked at."
+    #[inline]
+    fn execute(&mut self, word: u32) -> Result<(), Refusal> {
+        if self.wrong(Fault::InstructionLowBitsChecked) && word & 0x007F_FFFF != 0 {
+            return Err(Refusal::UnknownInstruction);
+        }
+        match word >> 23 {
+            0x00 | 0x04 => Ok(()),
+            0x02 => {
+                self.user_interrupt();
+                Ok(())
+            }
+            _ => Err(Refusal::UnknownInstruction),
+        }
+    }
+
+    /// "Head moves 4, modulo the length; at the wrap 31:21 counts up modulo 2,048."
+    #[inline]
+    fn advance(&mut self) {
+        let (mut offset, mut wraps) = (self.ring.head_offset() + 4, self.ring.wraps());
+        if offset == self.ring_bytes() {
+            offset = 0;
+            let kept = self.wrong(Fault::WrapNotCounted) || wraps == 2047 && self.wrong(Fault::WrapsSaturate);
+            wraps = if kept { wraps } else { (wraps + 1) % 2048 };
+        }
+        if self.wrong(Fault::StepConsumesRing) {
+            offset = self.ring.tail;
+        }
+        self.ring.head = wraps << 21 | offset;
+    }
+
+    #[inline]
+    fn ring_bytes(&self) -> u32 {
+        self.ring.bytes() - if self.wrong(Fault::RingPagesNotPlusOne) { 4 * KIB } else { 0 }
+    }
+
+    /// The ring's registers.
+    #[inline]
+    pub fn ring(&self) -> Ring {
+        self.ring
+    }
+
+    /// Where the parser would fetch the word at this offset of the window, if it would be answered.
+    pub fn fetch_address(&self, offset: u32) -> Option<u32> {
+        if offset >= self.window_bytes() {
+            return None;
+        }
+        self.translate(offset).ok()
+    }
+}

@@ -1,0 +1,189 @@
+//! Where an address goes, and access to main memory (document 01, "Where an address goes").
+
+use super::{reached, Access, Hub, Lsmm, Observer, Rule, Smram, Touch, KIB};
+use crate::faults::{Fault, Faults};
+use crate::record::{Answer, Refusal, Target};
+
+/// Who makes an access, as far as routing looks at it.
+#[derive(Clone, Copy, PartialEq, Eq)]
+pub(super) enum Mode {
+    Processor { management: bool, code: bool },
+    Master,
+}
+
+/// Where routing takes an address.
+#[derive(Clone, Copy, PartialEq, Eq)]
+enum Route {
+    /// Main memory, at this physical address.
+    Memory(u32),
+    /// The hub, with the record's address.
+    Hub,
+    /// The hub, and SMRAM's error bit is set.
+    HubWithError,
+    /// The VGA range, at this offset from A0000h.
+    Vga(u32),
+    /// The memory-mapped registers, at this offset.
+    Registers(u32),
+    /// The window, at this offset.
+    Window(u32),
+}
+
+impl<O: Observer, F: Faults> Hub<'_, O, F> {
+    /// An access of the processor or of a hub master.
+    #[inline]
+    pub(super) fn addressed(&mut self, access: Access, mode: Mode) -> Result<Answer, Refusal> {
+        let (rule, route) = match mode {
+            Mode::Processor { management, code } => self.route_processor(access, management, code),
+            Mode::Master => self.route_master(access.address),
+        };
+        self.observer.routed(rule);
+        match route {
+            Route::Memory(address) => Ok(self.memory_access(address, access)),
+            Route::Hub => Ok(reached(Target::Hub, access.address, 0)),
+            Route::HubWithError => {
+                self.set_error(access);
+                Ok(reached(Target::Hub, access.address, 0))
+            }
+            Route::Vga(offset) => Ok(reached(Target::Vga, offset, 0)),
+            Route::Registers(offset) => self.register_access(offset, access),
+            Route::Window(offset) => self.window_access(offset, access, mode),
+        }
+    }
+
+    /// "T = TSEG size, G = taken size, U = TOM - T - G."
+    #[inline]
+    pub fn usable_top(&self) -> u32 {
+        self.tom - self.smram().tseg_bytes() - self.smram().taken_bytes()
+    }
+
+    /// "First match, processor", rules 1 to 9.
+    #[inline]
+    fn route_processor(&self, access: Access, management: bool, code: bool) -> (Rule, Route) {
+        match access.address {
+            address @ 0..=0x9_FFFF => (Rule::Low, Route::Memory(address)),
+            address @ 0xA_0000..=0xB_FFFF => self.route_compatible(address, management, code, access.data.is_some()),
+            0xC_0000..=0xF_FFFF => (Rule::Bios, Route::Hub),
+            address if address < self.usable_top() => (Rule::Main, Route::Memory(address)),
+            address if address < self.tom => self.route_top(address, management),
+            address @ 0xFEEA_0000..=0xFEEB_FFFF if self.hseg_acts() => match management {
+                true => (Rule::HsegMemory, Route::Memory(0xA_0000 + (address - 0xFEEA_0000))),
+                false => (Rule::HsegError, Route::HubWithError),
+            },
+            address if self.graphics_decodes() => self.route_graphics(address),
+            _ => (Rule::Elsewhere, Route::Hub),
+        }
+    }
+
+    /// Rule 2: "memory if LSMM 01; or LSMM 10, management code read; or LSMM 11, management. Else
+    /// VGA, or hub if GMS 00."
+    fn route_compatible(&self, address: u32, management: bool, code: bool, write: bool) -> (Rule, Route) {
+        let smram = self.smram();
+        let memory = match smram.lsmm() {
+            Lsmm::Off => management && smram.hseg_acts() && self.wrong(Fault::HsegOpensCompatibleRange),
+            Lsmm::General => true,
+            Lsmm::ManagementCodeReads if self.wrong(Fault::ManagementDataReadsOpened) => management && !write,
+            Lsmm::ManagementCodeReads => management && code && !self.wrong(Fault::ManagementCodeReadsShut),
+            Lsmm::ManagementAll => management,
+        };
+        if memory {
+            (Rule::CompatibleMemory, Route::Memory(address))
+        } else if smram.graphics_on() || self.wrong(Fault::VgaWithoutGraphics) {
+            (Rule::CompatibleVga, Route::Vga(address - 0xA_0000))
+        } else {
+            (Rule::CompatibleHub, Route::Hub)
+        }
+    }
+
+    /// Rule 5: "from TOM - T, management: memory. Else hub; a non-management access at or above
+    /// TOM - T sets the error bit."
+    fn route_top(&self, address: u32, management: bool) -> (Rule, Route) {
+        match (self.in_tseg(address), management) {
+            (true, true) => (Rule::TsegMemory, Route::Memory(address)),
+            (true, false) => (Rule::TsegError, Route::HubWithError),
+            (false, true) if self.wrong(Fault::ManagementReachesTakenMemory) => (Rule::Taken, Route::Memory(address)),
+            (false, false) if self.wrong(Fault::ErrorForTakenMemory) => (Rule::Taken, Route::HubWithError),
+            (false, _) => (Rule::Taken, Route::Hub),
+        }
+    }
+
+    /// Rules 7 to 9: "512 KiB at MMADR, 8. the window at GMADR", "9. hub". Both bases are multiples
+    /// of the sizes, so a difference below the size is inside, also at the end of the 4 GiB.
+    #[inline]
+    fn route_graphics(&self, address: u32) -> (Rule, Route) {
+        let register = address.wrapping_sub(self.registers_base());
+        let window = address.wrapping_sub(self.window_base());
+        let ignored = self.window_base() == 0 && self.wrong(Fault::WindowAtZeroIgnored);
+        let in_window = window < self.window_bytes() && !ignored;
+        let hidden = in_window && self.wrong(Fault::WindowBeforeRegisters);
+        if register < 512 * KIB && !hidden {
+            (Rule::Registers, Route::Registers(register))
+        } else if in_window {
+            (Rule::Window, Route::Window(window))
+        } else {
+            (Rule::Elsewhere, Route::Hub)
+        }
+    }
+
+    /// "Hub masters: memory by rules 1, 4 and by 2 with LSMM 01; else hub, no error bit."
+    #[inline]
+    fn route_master(&self, address: u32) -> (Rule, Route) {
+        let opened = match self.smram().lsmm() {
+            Lsmm::General => true,
+            Lsmm::ManagementAll => self.wrong(Fault::MastersReachManagementMemory),
+            _ => false,
+        };
+        match address {
+            0..=0x9_FFFF => (Rule::MasterLow, Route::Memory(address)),
+            0xA_0000..=0xB_FFFF if opened => (Rule::MasterCompatible, Route::Memory(address)),
+            0x10_0000.. if address < self.usable_top() => (Rule::MasterMain, Route::Memory(address)),
+            _ if self.wrong(Fault::ErrorForMasters) && self.in_tseg(address) => (Rule::MasterHub, Route::HubWithError),
+            _ => (Rule::MasterHub, Route::Hub),
+        }
+    }
+
+    #[inline]
+    fn in_tseg(&self, address: u32) -> bool {
+        (self.tom - self.smram().tseg_bytes()..self.tom).contains(&address)
+    }
+
+    /// "HSEG acts only if LSMM is 00."
+    #[inline]
+    fn hseg_acts(&self) -> bool {
+        let smram = self.smram();
+        smram.hseg_acts() || self.wrong(Fault::HsegActsBesideLsmm) && smram.has_hseg()
+    }
+
+    /// "Protected: A0000h-BFFFFh if LSMM is 10 or 11, or HSEG acts; and the TSEG. Locked or not."
+    #[inline]
+    pub fn protected(&self, address: u32) -> bool {
+        let smram: Smram = self.smram();
+        if self.wrong(Fault::ProtectedOnlyWhenLocked) && !smram.locked() {
+            return false;
+        }
+        if self.wrong(Fault::TakenMemoryProtected) && (self.usable_top()..self.tom).contains(&address) {
+            return true;
+        }
+        let closed = matches!(smram.lsmm(), Lsmm::ManagementCodeReads | Lsmm::ManagementAll) || self.hseg_acts();
+        (0xA_0000..=0xB_FFFF).contains(&address) && closed || self.in_tseg(address)
+    }
+
+    /// "value read, zero-extended (0 for writes)"; "a write's data past its width is ignored".
+    #[inline]
+    pub(super) fn memory_access(&mut self, address: u32, access: Access) -> Answer {
+        let (width, write) = (access.width, access.data.is_some());
+        self.observer.touched(Touch { address, width, write, protected: self.protected(address) });
+        let at = address as usize;
+        let bytes = &mut self.memory[at..at + width as usize];
+        let value = match (access.data, bytes) {
+            (None, &mut [a]) => u32::from(a),
+            (None, &mut [a, b]) => u32::from(u16::from_le_bytes([a, b])),
+            (None, &mut [a, b, c, d]) => u32::from_le_bytes([a, b, c, d]),
+            (None, _) => 0,
+            (Some(data), bytes) => {
+                bytes.copy_from_slice(&data.to_le_bytes()[..width as usize]);
+                0
+            }
+        };
+        reached(Target::Memory, address, value)
+    }
+}

@@ -1,0 +1,166 @@
+//! The window: fences and translation (document 01, "Table, fences, ring, interrupts").
+
+use super::routing::Mode;
+use super::{Access, Hub, Observer, KIB, MIB};
+use crate::faults::{Fault, Faults};
+use crate::record::{Answer, Refusal};
+
+/// A fence register.
+#[derive(Clone, Copy, Debug, PartialEq, Eq)]
+pub struct Fence(pub u32);
+
+impl Fence {
+    /// "start 25:19, walk 12, size 512 KiB x 2^(10:8), pitch P = 128 x 2^(6:4), valid 0; other bits
+    /// read 0"
+    pub(super) const BITS: u32 = 0x03F8_1771;
+
+    #[inline]
+    const fn start(self) -> u32 {
+        self.0 & 0x03F8_0000
+    }
+
+    /// "size code 7 read as 32 MiB"
+    #[inline]
+    const fn size(self) -> u32 {
+        match self.0 >> 8 & 7 {
+            7 => 32 * MIB,
+            code => (512 * KIB) << code,
+        }
+    }
+
+    #[inline]
+    const fn pitch(self) -> u32 {
+        128 << (self.0 >> 4 & 7)
+    }
+
+    /// "Matching means valid and start <= o < start + size".
+    #[inline]
+    pub const fn matches(self, offset: u32) -> bool {
+        self.0 & 1 != 0 && self.start() <= offset && offset < self.start() + self.size()
+    }
+
+    /// "Ill-formed: size 7, pitch 6 or 7, walk 1, start no multiple of the size."
+    #[inline]
+    pub const fn ill_formed(self) -> bool {
+        self.fields_ill_formed() || !self.start().is_multiple_of(self.size())
+    }
+
+    #[inline]
+    const fn fields_ill_formed(self) -> bool {
+        self.0 >> 8 & 7 == 7 || self.0 >> 4 & 7 >= 6 || self.0 >> 12 & 1 != 0
+    }
+
+    /// "With d = o - start, y = d / P, x = d mod P: result start + 2048((y/16)(P/128) + x/128) +
+    /// 128(y mod 16) + x mod 128."
+    #[inline]
+    pub const fn tiled(self, offset: u32) -> u32 {
+        self.tiled_in_rows(offset, 16)
+    }
+
+    /// A tile is 128 bytes wide and `rows` high; in truth 16.
+    #[inline]
+    const fn tiled_in_rows(self, offset: u32, rows: u32) -> u32 {
+        let pitch = self.pitch();
+        let d = offset - self.start();
+        let (y, x) = (d / pitch, d % pitch);
+        self.start() + 128 * rows * ((y / rows) * (pitch / 128) + x / 128) + 128 * (y % rows) + x % 128
+    }
+}
+
+impl<O: Observer, F: Faults> Hub<'_, O, F> {
+    /// A processor access through the window; the codes come in the order "9, 3, 4, 5, 7, 6".
+    #[inline]
+    pub(super) fn window_access(&mut self, offset: u32, access: Access, mode: Mode) -> Result<Answer, Refusal> {
+        if self.wrong(Fault::TranslationBeforeFence) && !self.translation_on() {
+            return Err(Refusal::TranslationOff);
+        }
+        let offset = self.fenced(offset)?;
+        let management = matches!(mode, Mode::Processor { management: true, .. });
+        let address = match self.translate(offset) {
+            Err(Refusal::PageProtected) if management && self.wrong(Fault::ManagementExemptInWindow) => {
+                entry_page(self.table[offset as usize / 4096]) + offset % 4096
+            }
+            result => result?,
+        };
+        Ok(self.memory_access(address, access))
+    }
+
+    /// "Eight fences, processor window accesses only, lowest matching number wins".
+    #[inline]
+    pub(super) fn fenced(&self, offset: u32) -> Result<u32, Refusal> {
+        let skip = self.wrong(Fault::IllFormedFenceSkipped);
+        let mut matching = self.fences.iter().filter(|fence| fence.matches(offset) && !(skip && fence.ill_formed()));
+        let fence = if self.wrong(Fault::HighestFenceWins) { matching.next_back() } else { matching.next() };
+        let Some(fence) = fence else {
+            return Ok(offset);
+        };
+        let ill_formed = match self.wrong(Fault::FenceStartNotChecked) {
+            true => fence.fields_ill_formed(),
+            false => fence.ill_formed(),
+        };
+        if ill_formed {
+            Err(Refusal::FenceIllFormed)
+        } else if self.wrong(Fault::TileOfEightRows) {
+            Ok(fence.tiled_in_rows(offset, 8))
+        } else {
+            Ok(fence.tiled(offset))
+        }
+    }
+
+    /// "2020h keeps 31:12 and bit 0, translation on."
+    #[inline]
+    fn translation_on(&self) -> bool {
+        self.table_control & 1 != 0
+    }
+
+    /// "Graphics offset o reads entry o / 4096; the result is page start + o mod 4096." The codes
+    /// come in the order 3, 4, 5, 7, 6.
+    #[inline]
+    pub(super) fn translate(&self, offset: u32) -> Result<u32, Refusal> {
+        if !self.translation_on() {
+            return Err(Refusal::TranslationOff);
+        }
+        let entry = self.table[offset as usize / 4096];
+        self.check_entry(entry)?;
+        let page = entry_page(entry);
+        let top = if self.wrong(Fault::LastPageRefused) { self.tom - 4096 } else { self.tom };
+        if page >= top {
+            return Err(Refusal::PageAboveMemory);
+        }
+        let tested = if self.wrong(Fault::ProtectionOfOffset) { offset } else { page };
+        if self.protected(tested) && !self.wrong(Fault::ProtectionNotChecked) {
+            return Err(Refusal::PageProtected);
+        }
+        Ok(page + offset % 4096)
+    }
+
+    /// Codes 4 and 5: "type 2:1 (00, 11 main memory; 01 display cache), valid 0".
+    #[inline]
+    fn check_entry(&self, entry: u32) -> Result<(), Refusal> {
+        let invalid = entry & 1 == 0;
+        let other_memory = match entry >> 1 & 3 {
+            1 | 2 => true,
+            3 => self.wrong(Fault::Type11Refused),
+            _ => false,
+        };
+        let mut codes = (Refusal::EntryNotValid, Refusal::EntryType);
+        if self.wrong(Fault::Codes4And5Exchanged) {
+            codes = (codes.1, codes.0);
+        }
+        if other_memory && self.wrong(Fault::TypeBeforeValid) {
+            Err(codes.1)
+        } else if invalid {
+            Err(codes.0)
+        } else if other_memory {
+            Err(codes.1)
+        } else {
+            Ok(())
+        }
+    }
+}
+
+/// "page 29:12"
+#[inline]
+const fn entry_page(entry: u32) -> u32 {
+    entry & 0x3FFF_F000
+}

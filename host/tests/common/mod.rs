@@ -1,0 +1,303 @@
+//! What the tests share: seeded random numbers, scripts of records, and a check that the proved call
+//! and the reference agree.
+#![allow(dead_code)]
+
+pub mod compare;
+pub mod generate;
+pub mod isolation;
+
+use mitrophel::reference::{Observer, Rule, Touch};
+use mitrophel::{call, record, reference, Answer, Record};
+use std::fmt;
+
+pub const MIB: usize = 1 << 20;
+
+/// splitmix64: small, seeded, and good enough to choose cases.
+#[derive(Clone)]
+pub struct Random(u64);
+
+impl Random {
+    pub fn new(seed: u64) -> Random {
+        Random(seed)
+    }
+
+    /// The numbers of one list of a run: each list can be made again by itself.
+    pub fn for_list(seed: u64, list: u64) -> Random {
+        let mut random = Random(seed ^ list.wrapping_mul(0xD134_2543_DE82_EF95));
+        random.next();
+        random
+    }
+
+    pub fn next(&mut self) -> u64 {
+        self.0 = self.0.wrapping_add(0x9E37_79B9_7F4A_7C15);
+        let z = (self.0 ^ (self.0 >> 30)).wrapping_mul(0xBF58_476D_1CE4_E5B9);
+        let z = (z ^ (z >> 27)).wrapping_mul(0x94D0_49BB_1331_11EB);
+        z ^ (z >> 31)
+    }
+
+    pub fn word(&mut self) -> u32 {
+        (self.next() >> 32) as u32
+    }
+
+    /// A number below `bound`, or 0 where there is none.
+    pub fn below(&mut self, bound: u32) -> u32 {
+        ((u64::from(self.word()) * u64::from(bound)) >> 32) as u32
+    }
+
+    /// True once in `n` times.
+    pub fn one_in(&mut self, n: u32) -> bool {
+        self.below(n) == 0
+    }
+
+    pub fn pick<T: Copy>(&mut self, choices: &[T]) -> T {
+        choices[self.below(choices.len() as u32) as usize]
+    }
+}
+
+/// The seed of a test: the environment's `MITROPHEL_SEED`, or a fixed one. It is printed, so that a
+/// failure can be made again.
+pub fn seed() -> u64 {
+    let seed = match std::env::var("MITROPHEL_SEED") {
+        Ok(text) => text.trim().parse().expect("MITROPHEL_SEED is a decimal number"),
+        Err(_) => 82_810,
+    };
+    println!("seed {seed} (set MITROPHEL_SEED to use another)");
+    seed
+}
+
+/// A number of lists: the environment's `MITROPHEL_LISTS`, or the one given.
+pub fn lists(default: u64) -> u64 {
+    match std::env::var("MITROPHEL_LISTS") {
+        Ok(text) => text.trim().parse().expect("MITROPHEL_LISTS is a decimal number"),
+        Err(_) => default,
+    }
+}
+
+/// Notes which rules were used and which bytes of memory were touched.
+#[derive(Default)]
+pub struct Watch {
+    pub coverage: Coverage,
+    /// Every write of the list.
+    pub writes: Vec<Touch>,
+    /// Every read of the list, fetches too, where `note_reads` is set.
+    pub reads: Vec<Touch>,
+    pub note_reads: bool,
+    /// For each record, where it landed if it is an access that reached memory.
+    pub landings: Vec<Option<Touch>>,
+    last: Option<Touch>,
+}
+
+impl Observer for Watch {
+    fn routed(&mut self, rule: Rule) {
+        self.coverage.rules[rule as usize] += 1;
+    }
+
+    fn touched(&mut self, touch: Touch) {
+        self.last = Some(touch);
+        if touch.write {
+            self.writes.push(touch);
+        } else if self.note_reads {
+            self.reads.push(touch);
+        }
+    }
+
+    fn answered(&mut self, record: &Record, answer: &Answer) {
+        let landing = self.last.take();
+        self.landings.push(landing.filter(|_| record.kind().is_some_and(|kind| kind.is_access())));
+        self.coverage.kinds[usize::from(record.kind).min(10) % 10] += 1;
+        self.coverage.codes[usize::from(answer.code)] += 1;
+        self.coverage.targets[usize::from(answer.target)] += 1;
+    }
+}
+
+/// How often each kind, code, target and rule was seen.
+#[derive(Clone, Default)]
+pub struct Coverage {
+    /// By kind; number 0 counts the records of no kind.
+    pub kinds: [u64; 10],
+    pub codes: [u64; 14],
+    pub targets: [u64; 6],
+    pub rules: [u64; Rule::ALL.len()],
+}
+
+impl Coverage {
+    pub fn add(&mut self, other: &Coverage) {
+        let pairs = self.kinds.iter_mut().zip(&other.kinds);
+        let pairs = pairs.chain(self.codes.iter_mut().zip(&other.codes));
+        let pairs = pairs.chain(self.targets.iter_mut().zip(&other.targets));
+        for (own, other) in pairs.chain(self.rules.iter_mut().zip(&other.rules)) {
+            *own += other;
+        }
+    }
+
+    /// What was never seen. Code 1 is the call's own result and is in no answer.
+    pub fn missing(&self) -> Vec<String> {
+        let none = |count: &&u64| **count == 0;
+        let mut missing = Vec::new();
+        for (kind, _) in self.kinds.iter().enumerate().filter(|(_, count)| none(count)) {
+            missing.push(format!("kind {kind}"));
+        }
+        for (code, _) in self.codes.iter().enumerate().filter(|&(code, ref count)| code != 1 && none(count)) {
+            missing.push(format!("code {code}"));
+        }
+        for (target, _) in self.targets.iter().enumerate().filter(|(_, count)| none(count)) {
+            missing.push(format!("target {target}"));
+        }
+        for (rule, _) in Rule::ALL.iter().zip(&self.rules).filter(|(_, count)| none(count)) {
+            missing.push(rule.to_string());
+        }
+        missing
+    }
+}
+
+impl fmt::Display for Coverage {
+    fn fmt(&self, f: &mut fmt::Formatter<'_>) -> fmt::Result {
+        for (kind, count) in self.kinds.iter().enumerate().skip(1) {
+            writeln!(f, "{count:>10}  kind {kind}")?;
+        }
+        writeln!(f, "{:>10}  no kind", self.kinds[0])?;
+        for (code, count) in self.codes.iter().enumerate().filter(|(code, _)| *code != 1) {
+            writeln!(f, "{count:>10}  code {code}")?;
+        }
+        for (target, count) in self.targets.iter().enumerate() {
+            writeln!(f, "{count:>10}  target {target}")?;
+        }
+        for (rule, count) in Rule::ALL.iter().zip(&self.rules) {
+            writeln!(f, "{count:>10}  {rule}")?;
+        }
+        Ok(())
+    }
+}
+
+/// Replays the records through the proved call and through the reference, asks that both agree in
+/// every answer and every byte of memory, and gives the answers.
+#[track_caller]
+pub fn replay_both(board: u32, memory: &mut [u8], records: &[Record]) -> Vec<Answer> {
+    let bytes = record::encode(records);
+    let mut expected_memory = memory.to_vec();
+    let mut expected = vec![0xA5; bytes.len()];
+    let mut actual = vec![0x5A; bytes.len()];
+    assert_eq!(reference::replay(board, &mut expected_memory, &bytes, &mut expected), 0);
+    assert_eq!(call::replay(board, memory, &bytes, &mut actual), Ok(()));
+    let pairs = record::decode_answers(&expected).zip(record::decode_answers(&actual));
+    for (record, (expected, actual)) in records.iter().zip(pairs) {
+        assert_eq!(actual, expected, "{record}");
+    }
+    assert!(memory == expected_memory, "memory differs");
+    record::decode_answers(&actual).collect()
+}
+
+/// A list of records under construction, over a board whose bases are fixed. A method that adds the
+/// record a test asks about gives its number in the list.
+#[derive(Clone, Default)]
+pub struct Script {
+    pub records: Vec<Record>,
+}
+
+impl Script {
+    /// Where [`Script::graphics`] puts the window and the memory-mapped registers.
+    pub const WINDOW: u32 = 0xC000_0000;
+    pub const REGISTERS: u32 = 0xF000_0000;
+
+    pub fn new() -> Script {
+        Script::default()
+    }
+
+    pub fn push(&mut self, record: Record) -> usize {
+        self.records.push(record);
+        self.records.len() - 1
+    }
+
+    fn select(&mut self, device: u32, register: u32) -> u32 {
+        self.push(Record::io_write(0xCF8, 4, 0x8000_0000 | device << 11 | register & 0xFC));
+        0xCFC + register % 4
+    }
+
+    pub fn config_write(&mut self, device: u32, register: u32, width: u8, data: u32) -> usize {
+        let port = self.select(device, register);
+        self.push(Record::io_write(port, width, data))
+    }
+
+    pub fn config_read(&mut self, device: u32, register: u32, width: u8) -> usize {
+        let port = self.select(device, register);
+        self.push(Record::io_read(port, width))
+    }
+
+    pub fn smram(&mut self, value: u8) -> usize {
+        self.config_write(0, 0x70, 1, u32::from(value))
+    }
+
+    pub fn read_smram(&mut self) -> usize {
+        self.config_read(0, 0x70, 1)
+    }
+
+    /// Graphics on with nothing taken, both bases set, memory access of device 1 on.
+    pub fn graphics(&mut self) -> &mut Script {
+        self.smram(0x40);
+        self.config_write(1, 0x10, 4, Script::WINDOW);
+        self.config_write(1, 0x14, 4, Script::REGISTERS);
+        self.config_write(1, 0x04, 1, 0x06);
+        self
+    }
+
+    pub fn register_write(&mut self, offset: u32, data: u32) -> usize {
+        let width = if (0x20A0..0x20B0).contains(&offset) { 2 } else { 4 };
+        self.push(Record::write(Script::REGISTERS + offset, width, data, false))
+    }
+
+    pub fn register_read(&mut self, offset: u32) -> usize {
+        let width = if (0x20A0..0x20B0).contains(&offset) { 2 } else { 4 };
+        self.push(Record::read(Script::REGISTERS + offset, width, false))
+    }
+
+    pub fn entry(&mut self, number: u32, data: u32) -> usize {
+        self.register_write(0x1_0000 + 4 * number, data)
+    }
+
+    pub fn translation_on(&mut self) -> usize {
+        self.register_write(0x2020, 1)
+    }
+
+    pub fn window_read(&mut self, offset: u32, width: u8) -> usize {
+        self.push(Record::read(Script::WINDOW + offset, width, false))
+    }
+
+    /// The ring's four registers; `length` is 203Ch as written.
+    pub fn ring(&mut self, start: u32, length: u32, head: u32, tail: u32) -> &mut Script {
+        self.register_write(0x2030, tail);
+        self.register_write(0x2034, head);
+        self.register_write(0x2038, start);
+        self.register_write(0x203C, length);
+        self
+    }
+
+    pub fn run(&mut self, budget: u32) -> usize {
+        self.push(Record::run(budget))
+    }
+
+    /// Replays on 8 MiB of zeros, on the 82810.
+    #[track_caller]
+    pub fn replay(&self) -> Vec<Answer> {
+        self.replay_on(&mut vec![0; 8 * MIB])
+    }
+
+    #[track_caller]
+    pub fn replay_on(&self, memory: &mut [u8]) -> Vec<Answer> {
+        replay_both(0, memory, &self.records)
+    }
+}
+
+/// An answer with a target.
+pub fn reached(target: mitrophel::Target, address: u32, value: u32) -> Answer {
+    Answer { target: target.number(), address, value, ..Answer::default() }
+}
+
+/// A refusal with the interrupt line down.
+pub fn refused(code: u8) -> Answer {
+    Answer { code, ..Answer::default() }
+}
+
+/// A run's answer with the interrupt line down.
+pub fn ran(code: u8, head: u32, count: u32) -> Answer {
+    Answer { code, address: head, count, ..Answer::default() }
+}

@@ -1,0 +1,182 @@
+//! Memory safety at run time: each buffer lies flush against a page that cannot be touched, on either
+//! side in turn, and the records cannot be written. A byte read or written outside a buffer ends the
+//! test with a fault. Linux on x86-64.
+#![cfg(all(target_os = "linux", target_arch = "x86_64"))]
+
+mod common;
+
+use common::compare::{undo, Lists};
+use common::generate::MOST_MEMORY;
+use common::{lists, seed};
+use mitrophel::call;
+use std::ffi::{c_int, c_long, c_void};
+
+const PAGE: usize = 4096;
+const PROT_NONE: c_int = 0;
+const PROT_READ: c_int = 1;
+const PROT_WRITE: c_int = 2;
+const MAP_PRIVATE_ANONYMOUS: c_int = 0x22;
+
+extern "C" {
+    fn mmap(
+        address: *mut c_void,
+        length: usize,
+        protection: c_int,
+        flags: c_int,
+        file: c_int,
+        at: c_long,
+    ) -> *mut c_void;
+    fn mprotect(address: *mut c_void, length: usize, protection: c_int) -> c_int;
+    fn munmap(address: *mut c_void, length: usize) -> c_int;
+}
+
+/// On which side of a buffer the page lies that cannot be touched.
+#[derive(Clone, Copy, Debug, PartialEq, Eq)]
+enum Side {
+    Before,
+    After,
+}
+
+/// What fills the part of a mapping that is not lent.
+const FILL: u8 = 0x6B;
+
+/// Whole pages between two pages that cannot be touched.
+struct Guarded {
+    base: *mut u8,
+    room: usize,
+}
+
+impl Guarded {
+    fn new(bytes: usize) -> Guarded {
+        let room = bytes.next_multiple_of(PAGE);
+        // SAFETY: a new private mapping at an address that the kernel chooses.
+        let base = unsafe { mmap(std::ptr::null_mut(), room + 2 * PAGE, PROT_NONE, MAP_PRIVATE_ANONYMOUS, -1, 0) };
+        assert_ne!(base as isize, -1, "mmap");
+        let mut guarded = Guarded { base: base.cast::<u8>().wrapping_add(PAGE), room };
+        guarded.protect(PROT_READ | PROT_WRITE);
+        guarded.whole().fill(FILL);
+        guarded
+    }
+
+    fn protect(&mut self, protection: c_int) {
+        // SAFETY: these are the pages of our own mapping, and no slice of them is alive.
+        let result = unsafe { mprotect(self.base.cast(), self.room, protection) };
+        assert_eq!(result, 0, "mprotect");
+    }
+
+    fn whole(&mut self) -> &mut [u8] {
+        // SAFETY: `room` readable and writable bytes, borrowed for as long as `self` is.
+        unsafe { std::slice::from_raw_parts_mut(self.base, self.room) }
+    }
+
+    /// Where a buffer of this length lies.
+    fn place(&self, length: usize, side: Side) -> std::ops::Range<usize> {
+        match side {
+            Side::Before => 0..length,
+            Side::After => self.room - length..self.room,
+        }
+    }
+
+    /// A buffer of this length.
+    fn part(&mut self, length: usize, side: Side) -> &mut [u8] {
+        let place = self.place(length, side);
+        &mut self.whole()[place]
+    }
+
+    /// Whether the bytes beside the buffer are still [`FILL`]; then the buffer is filled too.
+    fn is_clean_beside(&mut self, length: usize, side: Side) -> bool {
+        let place = self.place(length, side);
+        let whole = self.whole();
+        whole[place].fill(FILL);
+        whole.iter().all(|&byte| byte == FILL)
+    }
+}
+
+impl Drop for Guarded {
+    fn drop(&mut self) {
+        // SAFETY: the mapping made in `new`, which nobody uses any more.
+        unsafe { munmap(self.base.wrapping_sub(PAGE).cast(), self.room + 2 * PAGE) };
+    }
+}
+
+/// The most bytes of a random list, with room to spare.
+const MOST_BYTES: usize = 256 << 10;
+
+/// "memory", "records" and "answers" are all that the call touches: "Main memory is a lent byte
+/// slice".
+#[test]
+fn the_call_stays_inside_each_buffer() {
+    let mut lists_of = Lists::new(seed());
+    // Memory is whole pages, so it is flush on both sides; its sizes have a mapping each.
+    let mut memories: Vec<Guarded> = [8, 16, 24].map(|size| Guarded::new(size << 20)).into();
+    for memory in &mut memories {
+        let length = memory.room;
+        memory.whole().copy_from_slice(&lists_of.pristine[..length]);
+    }
+    assert_eq!(memories.last().map(|memory| memory.room), Some(MOST_MEMORY));
+    let mut records = Guarded::new(MOST_BYTES);
+    let mut answers = Guarded::new(MOST_BYTES);
+    for number in 0..lists(2_000).min(2_000) {
+        let side = |bit: u64| if number >> bit & 1 == 0 { Side::After } else { Side::Before };
+        let list = lists_of.make(number);
+        let length = list.records.len();
+        let memory = memories.iter_mut().find(|memory| memory.room == list.tom).expect("a mapping of this size");
+
+        records.part(length, side(0)).copy_from_slice(&list.records);
+        records.protect(PROT_READ);
+        let place = records.place(length, side(0));
+        // SAFETY: `place` lies inside the mapping, whose pages can be read.
+        let lent = unsafe { std::slice::from_raw_parts(records.base.wrapping_add(place.start), length) };
+        let result = call::replay(list.board, memory.whole(), lent, answers.part(length, side(1)));
+        assert_eq!(result, Ok(()));
+        records.protect(PROT_READ | PROT_WRITE);
+
+        let checked = lists_of.check(&list, answers.part(length, side(1)), memory.whole());
+        assert_eq!(checked, Ok(()));
+        assert!(records.is_clean_beside(length, side(0)), "list {number}: bytes beside the records");
+        assert!(answers.is_clean_beside(length, side(1)), "list {number}: bytes beside the answers");
+        undo(memory.whole(), &lists_of.pristine, &list.writes);
+        lists_of.restore(&list);
+    }
+}
+
+/// The same for arguments that are refused: lengths that are wrong by one must not be believed.
+#[test]
+fn a_refused_call_stays_inside_each_buffer() {
+    let mut memory = Guarded::new(8 << 20);
+    let mut records = Guarded::new(PAGE);
+    let mut answers = Guarded::new(PAGE);
+    for side in [Side::Before, Side::After] {
+        for (memory_length, records_length, answers_length) in [
+            ((8 << 20) - 1, 64, 64),
+            (0, 64, 64),
+            (8 << 20, 63, 63),
+            (8 << 20, 64, 63),
+            (8 << 20, 64, 48),
+            (8 << 20, 48, 64),
+            (8 << 20, 0, 16),
+            (8 << 20, 16, 0),
+        ] {
+            records.part(records_length, side).fill(5);
+            let result = call::replay(
+                0,
+                memory.part(memory_length, side),
+                records.part(records_length, side),
+                answers.part(answers_length, side),
+            );
+            assert!(result.is_err());
+            assert!(records.is_clean_beside(records_length, side));
+            assert!(answers.whole().iter().all(|&byte| byte == FILL), "answers were touched");
+            assert!(memory.whole().iter().all(|&byte| byte == FILL), "memory was touched");
+        }
+    }
+}
+
+/// No records, no answers, and memory of no length: pointers that must not be followed.
+#[test]
+fn empty_buffers_are_not_followed() {
+    let mut memory = Guarded::new(8 << 20);
+    assert!(call::replay(0, &mut [], &[], &mut []).is_err());
+    assert!(call::replay(0, memory.whole(), &[], &mut []).is_ok());
+    assert!(memory.whole().iter().all(|&byte| byte == FILL));
+}

@@ -1,0 +1,29 @@
+//! Demand 3 as a test, through the call.
+
+mod common;
+
+use common::isolation::two_runs;
+use common::{lists, seed};
+use mitrophel::call;
+use std::time::Instant;
+
+/// "The two lists are equally long and equal byte for byte, except bytes 8-11 of management-mode
+/// writes that land there in the first run. Answers are compared in all 16 bytes, except bytes 8-11
+/// for a management-mode read that lands there."
+#[test]
+fn two_runs_that_differ_in_protected_memory_cannot_be_told_apart() {
+    let started = Instant::now();
+    let trials = lists(2_000).min(2_000);
+    let outcome = two_runs(seed(), trials, |board, memory, records, answers| {
+        call::replay(board, memory, records, answers).is_ok()
+    });
+    let tally = outcome.unwrap_or_else(|why| panic!("{why}"));
+    println!("{tally:#?}");
+    println!("{:.1} s", started.elapsed().as_secs_f64());
+    // The trials must have had something to tell apart.
+    assert!(tally.differing_bytes > 0);
+    assert!(tally.different_values > 0);
+    assert!(tally.landing_writes > 0);
+    assert!(tally.protected_pages > 0);
+    assert!(tally.runs > 0);
+}

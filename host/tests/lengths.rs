@@ -1,0 +1,155 @@
+//! Code 1: "board kind, memory length, record length (not 16n, or n over 65,535) or answer length
+//! wrong". It "is the call's own result and leaves memory and answers untouched".
+
+mod common;
+
+use common::MIB;
+use mitrophel::{call, record, reference, Record, Refused, Target};
+
+/// A byte that neither memory nor answers hold by themselves.
+const UNTOUCHED: u8 = 0xC3;
+
+/// Bytes whose every 64 KiB starts with a marked page; the rest is zero and costs no memory.
+fn marked(length: usize) -> Vec<u8> {
+    let mut bytes = vec![0; length];
+    for part in bytes.chunks_mut(64 << 10) {
+        let end = part.len().min(4096);
+        part[..end].fill(UNTOUCHED);
+    }
+    bytes
+}
+
+fn is_marked(bytes: &[u8]) -> bool {
+    bytes.chunks(64 << 10).all(|part| {
+        let (mark, rest) = part.split_at(part.len().min(4096));
+        mark.iter().all(|&byte| byte == UNTOUCHED) && rest.iter().all(|&byte| byte == 0)
+    })
+}
+
+/// Records that would write memory, registers and answers if they were replayed.
+fn writes(count: usize) -> Vec<u8> {
+    let write = |i: usize| Record::write(0x1000 + 4 * (i as u32 % 1024), 4, 0x1234_5678, false);
+    record::encode(&(0..count).map(write).collect::<Vec<_>>())
+}
+
+/// Asks that the call and the reference refuse the arguments and touch nothing.
+fn assert_refused(board: u32, memory: &mut [u8], records: &[u8], answers_length: usize) {
+    let mut answers = vec![UNTOUCHED; answers_length];
+    assert_eq!(call::replay(board, memory, records, &mut answers), Err(Refused));
+    assert_eq!(reference::replay(board, memory, records, &mut answers), 1);
+    assert!(answers.iter().all(|&byte| byte == UNTOUCHED), "answers were touched");
+    assert!(is_marked(memory), "memory was touched");
+}
+
+/// "at most 65,535 records"
+#[test]
+fn record_counts_up_to_65_535_are_good() {
+    let mut memory = vec![0; 8 * MIB];
+    for count in [0, 1, 2, 65_534, 65_535] {
+        let records = writes(count);
+        let mut answers = vec![UNTOUCHED; records.len()];
+        assert_eq!(call::replay(0, &mut memory, &records, &mut answers), Ok(()), "{count}");
+        let mut expected = vec![0; records.len()];
+        assert_eq!(reference::replay(0, &mut memory, &records, &mut expected), 0, "{count}");
+        assert!(answers == expected, "{count}");
+        assert!(record::decode_answers(&answers).all(|answer| answer.target() == Some(Target::Memory)));
+    }
+}
+
+/// "n over 65,535"
+#[test]
+fn record_counts_over_65_535_are_refused() {
+    let mut memory = marked(8 * MIB);
+    for count in [65_536, 65_537, 131_072] {
+        let records = writes(count);
+        assert_refused(0, &mut memory, &records, records.len());
+    }
+}
+
+/// "not 16n"
+#[test]
+fn record_lengths_that_are_no_multiple_of_16_are_refused() {
+    let mut memory = marked(8 * MIB);
+    let records = writes(65_536);
+    for length in [1, 8, 15, 17, 24, 31, 33, 1_048_559, 1_048_561, 1_048_575] {
+        assert_refused(0, &mut memory, &records[..length], length);
+    }
+}
+
+/// "answers are as long as records"
+#[test]
+fn answers_of_another_length_are_refused() {
+    let mut memory = marked(8 * MIB);
+    let records = writes(4);
+    for length in [0, 1, 15, 16, 48, 63, 65, 80, 1_048_576] {
+        assert_refused(0, &mut memory, &records, length);
+    }
+    for length in [1, 16] {
+        assert_refused(0, &mut memory, &[], length);
+    }
+}
+
+/// "a multiple of 8 MiB, 8 to 512 MiB"
+#[test]
+fn memory_of_a_wrong_length_is_refused() {
+    let mut memory = marked(520 * MIB);
+    let records = writes(4);
+    let lengths = [
+        0,
+        1,
+        4096,
+        4 * MIB,
+        8 * MIB - 1,
+        8 * MIB + 1,
+        8 * MIB + 4096,
+        12 * MIB,
+        16 * MIB - 1,
+        504 * MIB + 1,
+        512 * MIB - 1,
+        512 * MIB + 1,
+        512 * MIB + 4096,
+        516 * MIB,
+        520 * MIB,
+    ];
+    for length in lengths {
+        assert_refused(0, &mut memory[..length], &records, records.len());
+    }
+}
+
+/// The largest memory has its last word just below 512 MiB.
+#[test]
+fn memory_of_8_and_of_512_mib_is_good() {
+    for length in [8 * MIB, 16 * MIB, 504 * MIB, 512 * MIB] {
+        let mut memory = vec![0; length];
+        let top = length as u32;
+        let records = record::encode(&[
+            Record::write(top - 4, 4, 0x8281_0000, false),
+            Record::read(top - 2, 2, false),
+            Record::read(top, 4, false),
+        ]);
+        let mut answers = vec![UNTOUCHED; records.len()];
+        assert_eq!(call::replay(1, &mut memory, &records, &mut answers), Ok(()));
+        let answers: Vec<_> = record::decode_answers(&answers).collect();
+        assert_eq!(answers[1], common::reached(Target::Memory, top - 2, 0x8281));
+        assert_eq!(answers[2], common::reached(Target::Hub, top, 0));
+        assert_eq!(memory[length - 4..], 0x8281_0000_u32.to_le_bytes());
+    }
+}
+
+/// "Board kind 0 is 82810, 1 is DC100."
+#[test]
+fn every_other_board_kind_is_refused() {
+    let mut memory = marked(8 * MIB);
+    let records = writes(4);
+    for board in [2, 3, 4, 255, 256, 257, 65_536, 1 << 31, u32::MAX] {
+        assert_refused(board, &mut memory, &records, records.len());
+    }
+}
+
+/// Several wrong arguments are code 1 too.
+#[test]
+fn everything_wrong_at_once_is_refused() {
+    let mut memory = marked(8 * MIB + 1);
+    assert_refused(u32::MAX, &mut memory, &writes(65_537)[1..], 5);
+    assert_refused(2, &mut [], &[0], 0);
+}

@@ -1,0 +1,103 @@
+//! The proved call and the reference, compared byte for byte on random lists.
+
+mod common;
+
+use common::compare::{undo, Lists};
+use common::{lists, seed, Coverage, Random, MIB};
+use mitrophel::{call, reference};
+use std::time::Instant;
+
+/// Demand 2 as a test: "Each call is a cold start, replays all records in order and returns 0", and
+/// every answer and every byte of memory is what document 01 says. Every kind, code, target and rule
+/// must have been met.
+#[test]
+fn call_and_reference_agree_on_random_lists() {
+    let started = Instant::now();
+    let mut lists_of = Lists::new(seed());
+    let mut memory = lists_of.pristine.clone();
+    let mut answers = Vec::new();
+    let mut coverage = Coverage::default();
+    let (count, mut records) = (lists(20_000), 0);
+    for number in 0..count {
+        let list = lists_of.make(number);
+        records += list.records.len() / 16;
+        answers.clear();
+        answers.resize(list.records.len(), 0xA5);
+        let result = call::replay(list.board, &mut memory[..list.tom], &list.records, &mut answers);
+        assert_eq!(result, Ok(()), "list {number}");
+        if let Err(why) = lists_of.check(&list, &answers, &memory) {
+            panic!("{why}");
+        }
+        // A write where the reference wrote nothing stays in memory until this sees it.
+        if number % 64 == 63 || number + 1 == count {
+            assert!(memory == lists_of.expected, "memory differs after one of the 64 lists up to {number}");
+        }
+        undo(&mut memory, &lists_of.pristine, &list.writes);
+        lists_of.restore(&list);
+        coverage.add(&list.coverage);
+    }
+    println!("{count} lists, {records} records, {:.1} s", started.elapsed().as_secs_f64());
+    print!("{coverage}");
+    assert_eq!(coverage.missing(), Vec::<String>::new(), "never met");
+}
+
+/// "8 to 512 MiB": the same on the largest memory, whose pages entries can all name.
+#[test]
+fn call_and_reference_agree_on_the_largest_memory() {
+    let mut lists_of = Lists::on_zeros(seed(), 512 * MIB);
+    let mut memory = vec![0; 512 * MIB];
+    for number in 0..lists(20_000).min(300) {
+        let list = lists_of.make(number);
+        let mut answers = vec![0xA5; list.records.len()];
+        assert_eq!(call::replay(list.board, &mut memory, &list.records, &mut answers), Ok(()));
+        if let Err(why) = lists_of.check(&list, &answers, &memory) {
+            panic!("{why}");
+        }
+        undo(&mut memory, &lists_of.pristine, &list.writes);
+        lists_of.restore(&list);
+    }
+    assert!(memory.iter().all(|&byte| byte == 0), "memory differs after one of the lists");
+}
+
+/// Any bytes are records: noise that keeps the layout half of the time, at any address.
+#[test]
+fn call_and_reference_agree_on_noise() {
+    let mut random = Random::new(seed());
+    let (mut memory, mut expected_memory) = (vec![0; 8 * MIB], vec![0; 8 * MIB]);
+    for list in 0..lists(20_000).min(200) {
+        let mut records: Vec<u8> = (0..16 * random.below(500)).map(|_| random.word() as u8).collect();
+        for record in records.chunks_exact_mut(16).filter(|_| random.one_in(2)) {
+            record[0] %= 11;
+            record[1] = 1 << (record[1] % 3);
+            record[2] = 0;
+            record[3] = 0;
+            record[12..].fill(0);
+            if record[0] != 5 {
+                record[8..12].fill(0);
+            }
+        }
+        let (mut answers, mut expected) = (vec![0xA5; records.len()], vec![0x5A; records.len()]);
+        let board = random.below(2);
+        assert_eq!(call::replay(board, &mut memory, &records, &mut answers), Ok(()));
+        assert_eq!(reference::replay(board, &mut expected_memory, &records, &mut expected), 0);
+        assert!(answers == expected, "list {list}");
+    }
+    assert!(memory == expected_memory, "memory differs");
+}
+
+/// The reference's own loop over a list gives what its single steps gave while the list was made.
+#[test]
+fn reference_replays_a_list_as_it_made_it() {
+    let mut lists_of = Lists::new(seed());
+    let mut memory = lists_of.pristine.clone();
+    for number in 0..lists(20_000).min(500) {
+        let list = lists_of.make(number);
+        let mut answers = vec![0; list.records.len()];
+        assert_eq!(reference::replay(list.board, &mut memory[..list.tom], &list.records, &mut answers), 0);
+        if let Err(why) = lists_of.check(&list, &answers, &memory) {
+            panic!("{why}");
+        }
+        undo(&mut memory, &lists_of.pristine, &list.writes);
+        lists_of.restore(&list);
+    }
+}
