@@ -1,8 +1,8 @@
 -- One turn of a read or a write of n bytes, for any n.
 use mathlib.Core.Path.{_≡_, refl, sym}
 use mathlib.Core.Bool.{Bool, _||_}
-use Prim.Native.Nat.{ℕ, zero, suc, _+_, _-_, _*_, _/_, _%_, _^_, _<_, _≤_}
-use native.Mathlib.Nat.{add-assoc, pow-suc}
+use Prim.Native.Nat.{ℕ, suc, _+_, _-_, _*_, _/_, _%_, _^_, _<_, _≤_}
+use native.Mathlib.Nat.{add-assoc, pow-suc, pow-le-pow-right}
 use native.Mathlib.Omega.{arith}
 use borrow.Author.Tests.{lt-ltb, le-ltb}
 use lib.ListN.{set}
@@ -51,8 +51,7 @@ grows k v b h l = rw pow-suc (omega arith)
 
 -- four bytes fit a word
 pub word-fits : (k v b : ℕ) → k < 4 → v < 256 ^ k → b < 256 → b + 256 * v < 2 ^ 32
-word-fits zero v b l h hb = omega arith
-word-fits (suc zero) v b l h hb = omega arith
-word-fits (suc (suc zero)) v b l h hb = omega arith
-word-fits (suc (suc (suc zero))) v b l h hb = omega arith
-word-fits (suc (suc (suc (suc k)))) v b l h hb = omega arith
+word-fits k v b l h hb =
+    let e = grows k v b h hb in
+    let f = pow-le-pow-right {n = 256} (omega arith) {i = suc k} {j = 4} l in
+    omega arith

@@ -1,4 +1,5 @@
-// Reads and writes of configuration bytes.
+// Reads and writes of configuration bytes. A byte is named by x = device * 256 + register, and register_value and
+// register_written show that it is below 512. Bytes are taken from the state in place: passing it on would copy it.
 use gmch::State;
 ghost use mathlib.Core.Path.{_≡_};
 ghost use Prim.Native.Nat.{ℕ, _+_, _-_, _<_, _≤_};

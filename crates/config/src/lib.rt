@@ -82,7 +82,8 @@ pub fn port_target(cf8: u32, smram: u32, width: u32, port: u32) -> Target
     Target::Hub(port)
 }
 
-// What an access at x reads: CF8h or configuration registers.
+// What a read of `width` bytes at x gives, where x is CF8h or device * 256 + register.
+// The caller has x from port_target and the width from the test for code 2.
 pub fn register_value(s: State, x: u32, width: u32) -> u32
     requires { ⌜ ((x ≡ 0xCF8) ⊎ (x < 512)) × (x % 4 + width ≤ 4) ⌝ }
     ensures { λ r. ⌜ r ≡ registerValue s x width ⌝ }
@@ -93,7 +94,7 @@ pub fn register_value(s: State, x: u32, width: u32) -> u32
     access::config_read(s, x, width)
 }
 
-// The state after a write at x: to CF8h or to configuration registers.
+// The state after a write of `width` bytes of v at x, under the same terms.
 pub fn register_written(s: State, x: u32, width: u32, v: u32) -> State
     requires { ⌜ ((x ≡ 0xCF8) ⊎ (x < 512)) × (x % 4 + width ≤ 4) ⌝ }
     ensures { λ r. ⌜ r ≡ registerWritten s x width v ⌝ }

@@ -51,7 +51,7 @@ const ROWS: [Row; 24] = [
         writable: 0,
         clearing: 0,
     },
-    // SMRAM: what a write leaves has a rule of its own, smramWritten
+    // SMRAM: what a write leaves has a rule of its own, smram_written
     Row {
         at: 0x070,
         width: 1,
@@ -219,7 +219,7 @@ fn row_of(x: u32) -> Row
     }
 }
 
-// Byte k of a number, from the lowest.
+// Byte k of a number, from the lowest. No register is wider than four bytes.
 fn byte_of(n: u32, k: u32) -> u32
     requires { ⌜ k < 4 ⌝ }
     ensures { λ r. ⌜ r ≡ byteOf n k ⌝ }

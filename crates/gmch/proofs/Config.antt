@@ -1,5 +1,5 @@
 -- Configuration space, for its callers: where a port's access ends, and what a write of any width leaves as it was.
-use mathlib.Core.Path.{_≡_, refl, sym, ap, ap₂, _∙_}
+use mathlib.Core.Path.{_≡_, refl, sym, _∙_}
 use mathlib.Core.Logic.{_⊎_, inl, inr, ⊎-elim}
 use mathlib.Core.List.{List}
 use mathlib.Core.Bool.{Bool, true, false, false≢true}
@@ -7,7 +7,7 @@ use Prim.Native.Nat.{ℕ, zero, suc, _+_, _-_, _*_, _/_, _%_, _≤_, _<_}
 use native.Mathlib.Decide.{ℕ-discrete, decLt}
 use native.Mathlib.Omega.{arith}
 use borrow.Author.Tests.{eqb-true, ltb-false, eq-eqb, ne-eqb}
-use lib.Bits.{bitAnd, bitOr, and-zero-r, or-zero-r, and-mask}
+use lib.Bits.{bitAnd, and-zero-r, or-zero-r, and-mask}
 use lib.Dec.{eqb, ltb}
 use lib.ListN.{length, getD, set, length-set}
 use lib.Seq.{getD-set-same, getD-set-other, set-out}
@@ -18,7 +18,7 @@ use Rattle.gmch.specs.Config.{smramOf, deviceOf, present, ours, portTarg
 use Rattle.gmch.specs.declared.State.{State}
 use Rattle.gmch.specs.declared.Target.{Target}
 use Rattle.gmch.specs.declared.Target.the-variants.{Register, Hub}
-use Rattle.gmch.proofs.Choice.{choices, pick-elim, pick-elim₂, pick-true, pick-false, and-left, and-right, or-on}
+use Rattle.gmch.proofs.Choice.{choices, pick-elim, pick-elim₂, pick-true, and-left, and-right}
 
 -- ---- the ports
 
@@ -34,27 +34,33 @@ pub ours-below : (cf8 smram : ℕ) → ours cf8 smram ≡ true → deviceOf cf8 
 unfolding ours present
 ours-below cf8 smram e = below-two (deviceOf cf8) (ltb 0 (gms smram)) (and-right _ _ (and-right _ _ (and-right _ _ e)))
 
--- an access at a port ends at x: at CF8h with four bytes, or at a configuration register with the port's two low bits
-pub record Ported (width port x : ℕ) : Type 0 where
+-- x is where an access at the port ends: CF8h, with four bytes; or a configuration register, with the port's two low bits
+pub record AtPort (width port x : ℕ) : Type 0 where
   pub place : (x ≡ 0xCF8) ⊎ (x < 512)
   pub whole : x ≡ 0xCF8 → width ≡ 4
   pub low : x % 4 ≡ port % 4
 
-pub port-register : (cf8 smram width port x : ℕ) → portTarget cf8 smram width port ≡ Register x → Ported width port x
+-- it ends there or at the hub
+pub port-cases : (P : Target → Type 0) (cf8 smram width port : ℕ) → ((x : ℕ) → AtPort width port x → P (Register x)) → P (Hub port)
+    → P (portTarget cf8 smram width port)
 unfolding portTarget
-port-register cf8 smram width port x =
-    pick-elim (λ (t : Target). t ≡ Register x → Ported width port x) _
-    (λ t e.
+port-cases P cf8 smram width port r h =
+    pick-elim P _
+    (λ t.
     let p = eqb-true port 0xCF8 (and-left _ _ t) in
     let w = eqb-true width 4 (and-right (eqb port 0xCF8) _ t) in
-    let q : x ≡ 0xCF8 = cc in
-    record { place = inl q; whole = λ _. w; low = omega arith })
-    (λ _. pick-elim (λ (t : Target). t ≡ Register x → Ported width port x) _
-    (λ t e.
+    r 0xCF8 (record { place = inl refl; whole = λ _. w; low = omega arith }))
+    (λ _. pick-elim P _
+    (λ t.
     let d = ours-below cf8 smram (and-right _ _ t) in
-    let q : x ≡ deviceOf cf8 * 256 + (cf8 / 4 % 64 * 4 + port % 4) = cc in
-    record { place = inr (omega arith); whole = λ z. absurd (omega arith); low = omega arith })
-    (λ _ e. let z : _≡_ {A = ℕ} 0 1 = cc in absurd (omega arith)))
+    r (deviceOf cf8 * 256 + (cf8 / 4 % 64 * 4 + port % 4)) (record { place = inr (omega arith); whole = λ e. absurd (omega arith); low = omega arith }))
+    (λ _. h))
+
+pub port-register : (cf8 smram width port x : ℕ) → portTarget cf8 smram width port ≡ Register x → AtPort width port x
+port-register cf8 smram width port x =
+    port-cases (λ (t : Target). t ≡ Register x → AtPort width port x) cf8 smram width port
+    (λ y h e. let q : y ≡ x = cc in rw q at h)
+    (λ e. let z : _≡_ {A = ℕ} 0 1 = cc in absurd (omega arith))
 
 -- ---- a byte after a store
 
