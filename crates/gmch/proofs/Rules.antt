@@ -146,13 +146,13 @@ module _ (m : Map) (a : ℕ) where
         (λ _. pick-outcome _ (λ e. to (here (usable m) (omega arith) e))
         (λ _. pick-outcome _ (λ e. to (pick-ends _ (λ _. hub) (λ _. pick-ends _ (λ _. here (m .tom) (omega arith) e) (λ _. hub-error))))
         (λ _. pick-outcome _
-        (λ e. let h = within-from 0xFEEA0000 0x20000 a (and-right _ _ e) in let k = within-to 0xFEEA0000 0x20000 a (and-right _ _ e) in
+        (λ e. let h = in-range 0xFEEA0000 0x20000 a refl (and-right _ _ e) in
         to (pick-ends _ (λ _. memory (a - 0xFEEA0000 + 0xA0000) (omega arith) (omega arith)) (λ _. hub-error)))
         (λ _. pick-outcome _
-        (λ e. let h = within-from (m .mmadr) 0x80000 a (and-right _ _ e) in let k = within-to (m .mmadr) 0x80000 a (and-right _ _ e) in
+        (λ e. let h = in-range (m .mmadr) 0x80000 a refl (and-right _ _ e) in
         registers (a - m .mmadr) (omega arith) (omega arith))
         (λ _. pick-outcome _
-        (λ e. let h = within-from (m .gmadr) (m .window) a (and-right _ _ e) in let k = within-to (m .gmadr) (m .window) a (and-right _ _ e) in
+        (λ e. let h = in-range (m .gmadr) (m .window) a refl (and-right _ _ e) in
         window (a - m .gmadr) (omega arith) (omega arith))
         (λ _. to hub))))))))
 

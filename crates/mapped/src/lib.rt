@@ -122,8 +122,8 @@ pub fn written(s: State, o: u32, v: u32) -> State
 {
     let mut t = s;
     if within(0x2000, 0x20, o) {
-        let i = ((o - 0x2000) / 4) as usize;
-        t.fences[i] = v & 0x3F81771;
+        let fence = ((o - 0x2000) / 4) as usize;
+        t.fences[fence] = v & 0x3F81771;
         return t;
     }
     let r = s.regs;
@@ -138,8 +138,8 @@ pub fn table_written(table: &mut [u32], o: u32, v: u32)
     ensures { λ _. ⌜ now (table .exit) ≡ tableWritten (now (table .entry)) o v ⌝ }
 {
     if within(0x10000, 0x10000, o) {
-        let i = ((o - 0x10000) / 4) as usize;
-        table[i] = v & 0x3FFFF007;
+        let entry = ((o - 0x10000) / 4) as usize;
+        table[entry] = v & 0x3FFFF007;
     }
 }
 
