@@ -94,7 +94,7 @@ offset (Denied c) = 0
 pub marked : List (ℕ × ℕ)
 marked =
     -- U = 680000h
-    (0x800000 - Smram.tsegSize 0xBE - Smram.takenSize 0xBE, 0x680000) ∷
+    (Map.usable (Map.mapFrom 0x800000 0xBE 0 0 0 0 0), 0x680000) ∷
     -- 67FFFCh: memory
     (target (smram 0xBE ++ (read 0x67FFFC ∷ [])), 1) ∷
     -- 680000h: hub, no error

@@ -26,13 +26,16 @@ use Rattle.gmch.specs.declared.Record.{Record}
 use Rattle.gmch.specs.declared.Answer.{Answer}
 use Rattle.gmch.specs.declared.Ran.{Ran}
 use Rattle.gmch.specs.declared.Next.{Next}
+use Rattle.gmch.specs.declared.Next.the-variants.{Idle, Stop, Fetch}
 use Rattle.gmch.specs.declared.Step.{Step}
 use Rattle.gmch.specs.declared.Target.{Target}
 use Rattle.gmch.specs.declared.Target.the-variants.{Refused, Memory, Register, Hub, HubError, Vga, Mapped}
 use Rattle.gmch.proofs.Choice.{choices, pick-elim₂, clash, and-left, and-right, or-no-left, or-no-right}
 use Rattle.gmch.proofs.Words.{length-storeLe, storeLe-else, storeLe-same-at, loadLe-cong}
 use Rattle.gmch.proofs.Protect.{protected-upper, protected-word}
-use Rattle.gmch.proofs.Routing.{Safe, refused-safe, memory-safe, register-safe, hub-safe, error-safe, vga-safe, mapped-safe, target-safe, Fetches, idle-fetches, stop-fetches, word-fetches, next-fetches}
+use Rattle.gmch.proofs.Routing.{Safe, refused-safe, memory-safe, register-safe, hub-safe, error-safe, vga-safe, mapped-safe, target-safe}
+use Rattle.gmch.proofs.Table.{reached-free}
+use Rattle.gmch.proofs.Ring.{fetch-reached}
 use Rattle.gmch.proofs.Locked.{Locked}
 
 -- two records' results, where `free` says whether bytes 8 to 11 of the answers may differ
@@ -119,7 +122,7 @@ module _ (tom : ℕ) (z : Tom tom) (s : State) (table m m′ : List ℕ) (ag : A
   unfolding access memoryAfter valueAt inProtected
   access-related free management write w v refused-safe f = unchanged free _ _ _
   access-related free management write w v (memory-safe p l h n) f = memory-related free management write w v p h n f
-  access-related free management write w v register-safe f = unchanged free _ _ _
+  access-related free management write w v (register-safe x k) f = unchanged free _ _ _
   access-related free management write w v hub-safe f = unchanged free _ _ _
   access-related free management write w v error-safe f = unchanged free _ _ _
   access-related free management write w v vga-safe f = unchanged free _ _ _
@@ -132,7 +135,7 @@ module _ (tom : ℕ) (z : Tom tom) (s : State) (table m m′ : List ℕ) (ag : A
   hidden-related free management w v v′ refused-safe e = absurd (false≢true e)
   hidden-related free management w v v′ (memory-safe p l h n) e =
       record { states = refl; tables = refl; memories = store-hidden tom (smramOf s) z m m′ ag p w v v′ h e; answers = alike-refl free _ }
-  hidden-related free management w v v′ register-safe e = absurd (false≢true e)
+  hidden-related free management w v v′ (register-safe x k) e = absurd (false≢true e)
   hidden-related free management w v v′ hub-safe e = absurd (false≢true e)
   hidden-related free management w v v′ error-safe e = absurd (false≢true e)
   hidden-related free management w v v′ vga-safe e = absurd (false≢true e)
@@ -140,12 +143,17 @@ module _ (tom : ℕ) (z : Tom tom) (s : State) (table m m′ : List ℕ) (ag : A
 
 -- ---- a parser run: its steps, its count and its end are the same
 
-module _ (tom : ℕ) (z : Tom tom) (b : ℕ) (m m′ : List ℕ) (ag : Agree (protectedAt tom b) m m′) where
-  step-same : (r : Regs) {n : Next} → Fetches tom b n → stepOn m r n ≡ stepOn m′ r n
-  unfolding stepOn
-  step-same r idle-fetches = refl
-  step-same r stop-fetches = refl
-  step-same r (word-fetches p h e l) = rw (load-same tom b z m m′ ag p 4 (omega arith) e) refl
+step-same : (map : Map) → Tom (map .tom) → (table m m′ : List ℕ) → Agree (protectedAt (map .tom) (map .smram)) m m′
+    → (r : Regs) → step map table m r ≡ step map table m′ r
+unfolding stepOn
+step-same map z table m m′ ag r = by (next map table r) refl
+  where
+    by : (n : Next) → next map table r ≡ n → stepOn m r n ≡ stepOn m′ r n
+    by Idle e = refl
+    by (Stop c) e = refl
+    by (Fetch p) e =
+        let q = fetch-reached map table r p e in
+        rw (load-same (map .tom) (map .smram) z m m′ ag p 4 (omega (arith, q .1)) (reached-free map p z (q .0) p refl)) refl
 
 onward-same : (r : Regs) (count : ℕ) (f g : Regs → Ran) (x : Step) → ((r′ : Regs) → f r′ ≡ g r′) → onward r count f x ≡ onward r count g x
 onward-same r count f g x h = ap (λ (k : Regs → Ran). onward r count k x) (fun-ext h)
@@ -155,7 +163,7 @@ run-same : (map : Map) → Tom (map .tom) → (table m m′ : List ℕ) → Agre
 unfolding run
 run-same map z table m m′ ag zero count r = refl
 run-same map z table m m′ ag (suc budget) count r =
-    rw (step-same (map .tom) z (map .smram) m m′ ag r (next-fetches map table r z))
+    rw (step-same map z table m m′ ag r)
     (onward-same r count _ _ _ (λ r′. run-same map z table m m′ ag budget (suc count) r′))
 
 -- ---- a record

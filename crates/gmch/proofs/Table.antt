@@ -2,43 +2,20 @@
 use mathlib.Core.Path.{_≡_, refl, _∙_}
 use mathlib.Core.List.{List}
 use mathlib.Core.Bool.{false}
-use Prim.Native.Nat.{ℕ, suc, _+_, _-_, _*_, _/_, _%_, _≤_, _<_}
+use Prim.Native.Nat.{ℕ, _+_, _*_, _/_, _%_, _≤_, _<_}
 use native.Mathlib.Nat.{mul-mod-left}
 use native.Mathlib.Omega.{arith}
-use lib.Dec.{leb, ltb}
+use lib.Dec.{leb}
 use borrow.Author.Tests.{leb-false}
-use Rattle.gmch.specs.Choice.{within}
-use Rattle.gmch.specs.Smram.{segment, usmm, tsegSize}
 use Rattle.gmch.specs.Map.{Tom, protectedAt}
 use Rattle.gmch.specs.Fence.{fenced}
 use Rattle.gmch.specs.Table.{pageOf, entryAt, entryReach, translate, translated, windowReach}
 use Rattle.gmch.specs.declared.Map.{Map}
 use Rattle.gmch.specs.declared.Reach.{Reach}
 use Rattle.gmch.specs.declared.Reach.the-variants.{At, Denied}
-use Rattle.gmch.proofs.Choice.{pick-elim, leb-same}
+use Rattle.gmch.proofs.Choice.{pick-elim}
+use Rattle.gmch.proofs.Protect.{protected-page}
 use Rattle.gmch.proofs.Fence.{denied, fenced-within}
-
--- ---- protection goes by pages
-
-segment-pages : (code : ℕ) → (segment code % 4096 ≡ 0) × (segment code ≤ 0x100000)
-unfolding segment
-segment-pages code = pick-elim P _ (λ t. (refl, omega arith)) (λ t. pick-elim P _ (λ u. (refl, omega arith)) (λ u. (refl, omega arith)))
-  where
-    P : ℕ → Type 0
-    P n = (n % 4096 ≡ 0) × (n ≤ 0x100000)
-
--- addresses of one page are protected or not alike
-pub protected-page : (tom smram a b : ℕ) → Tom tom → a / 4096 ≡ b / 4096 → protectedAt tom smram a ≡ protectedAt tom smram b
-unfolding protectedAt within
-protected-page tom smram a b t e =
-    let s = segment-pages (usmm smram) in
-    rw (from 0xA0000 refl, to 0xC0000 refl, from (tom - tsegSize smram) (omega arith), to tom (omega arith))
-  where
-    from : (k : ℕ) → k % 4096 ≡ 0 → leb k a ≡ leb k b
-    from k z = leb-same k a k b (λ h. omega arith) (λ h. omega arith)
-
-    to : (k : ℕ) → k % 4096 ≡ 0 → ltb a k ≡ ltb b k
-    to k z = leb-same (suc a) k (suc b) k (λ h. omega arith) (λ h. omega arith)
 
 -- ---- what is reached
 

@@ -1,6 +1,8 @@
 -- Document 01, 'Configuration space': the ports CF8h and CFCh to CFFh, reads and writes of registers.
 -- A register's byte is named as answers name it, by x = device * 256 + register.
-use Prim.Native.Nat.{ℕ, zero, suc, _+_, _-_, _*_, _/_, _%_}
+use Prim.Native.Nat.{ℕ, zero, suc, _+_, _-_, _*_, _/_, _%_, _≤_, _<_}
+use mathlib.Core.Path.{_≡_}
+use mathlib.Core.Logic.{_⊎_}
 use mathlib.Core.List.{List}
 use mathlib.Core.Bool.{Bool, true, false}
 use lib.ListN.{getD, set}
@@ -58,6 +60,10 @@ portTarget cf8 smram width port =
     pick (eqb port 0xCF8 and eqb width 4) (Register 0xCF8)
     (pick (within 0xCFC 4 port and ours cf8 smram) (Register (deviceOf cf8 * 256 + (cf8 / 4 % 64 * 4 + port % 4)))
     (Hub port))
+
+-- CF8h, or one of our registers with those bytes of its word that an access of this width takes
+abbrev pub Placed : ℕ → ℕ → Type 0
+Placed x width = ((x ≡ 0xCF8) ⊎ (x < 512)) × (x % 4 + width ≤ 4)
 
 -- ---- registers
 

@@ -1,8 +1,6 @@
 -- One record in two parts, as the code takes it: what is decided, answer and effect, with the state only read; and the
 -- effect on the state. proofs/Laws.antt shows that together they are `oneRecord`.
-use Prim.Native.Nat.{ℕ, _+_, _%_, _≤_, _<_}
-use mathlib.Core.Path.{_≡_}
-use mathlib.Core.Logic.{_⊎_}
+use Prim.Native.Nat.{ℕ, _+_, _≤_, _<_}
 use mathlib.Core.List.{List}
 use mathlib.Core.Bool.{Bool, not}
 use lib.ListN.{set}
@@ -10,7 +8,7 @@ use lib.Dec.{eqb}
 use Rattle.gmch.specs.Choice.{pick, _and_}
 use Rattle.gmch.specs.Records.{isWrite, wellFormed, reply}
 use Rattle.gmch.specs.Smram.{smramError}
-use Rattle.gmch.specs.Config.{withDev0, withRegs, smramOf, registerWritten}
+use Rattle.gmch.specs.Config.{withDev0, withRegs, smramOf, Placed, registerWritten}
 use Rattle.gmch.specs.Map.{mapOf}
 use Rattle.gmch.specs.Mapped.{isEntry, mappedWritten}
 use Rattle.gmch.specs.Ring.{run}
@@ -47,10 +45,6 @@ applied board s (Configure x width v) = registerWritten s x width v
 applied board s (Store o v) = mappedWritten s o v
 applied board s Error = withDev0 s (set (s .dev0) 0x70 (smramError (smramOf s)))
 applied board s Reset = coldStart board
-
--- CF8h, or a register of ours with the bytes of its word that an access takes
-abbrev pub Placed : ℕ → ℕ → Type 0
-Placed x width = ((x ≡ 0xCF8) ⊎ (x < 512)) × (x % 4 + width ≤ 4)
 
 -- the bytes that an access takes are there
 abbrev pub Reachable : ℕ → ℕ → Target → Type 0

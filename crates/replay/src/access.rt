@@ -11,16 +11,16 @@ use gmch::State;
 use gmch::Target;
 ghost use mathlib.Core.Path.{_≡_};
 ghost use mathlib.Core.Bool.{Bool};
-ghost use Prim.Native.Nat.{_+_, _≤_, _<_};
+ghost use Prim.Native.Nat.{_+_, _%_, _≤_};
 ghost use lib.ListN.{length};
 ghost use Rattle.gmch.specs.Choice.{pick};
 ghost use Rattle.gmch.specs.Words.{loadLe, storeLe};
 ghost use Rattle.gmch.specs.Records.{reply};
-ghost use Rattle.gmch.specs.Config.{registerValue};
+ghost use Rattle.gmch.specs.Config.{Placed, registerValue};
 ghost use Rattle.gmch.specs.Map.{Tom, mapOf};
 ghost use Rattle.gmch.specs.Mapped.{mappedValue, tableWritten};
 ghost use Rattle.gmch.specs.Replay.{resolved, memoryTarget, targetOf, tableAfter, memoryAfter};
-ghost use Rattle.replay.specs.Decide.{Placed, Reachable, InWindow, decided, acted, effectAt};
+ghost use Rattle.replay.specs.Decide.{Reachable, InWindow, decided, acted, effectAt};
 ghost use Rattle.words.specs.Width.{Width};
 
 // What the map goes by, read off the state.
@@ -69,7 +69,7 @@ fn resolve(
 
 // The processor's accesses and the hub masters'.
 fn memory_target(m: Map, fences: [u32; 8], control: u32, table: &[u32], r: Record) -> Target
-    requires { ⌜ Tom (m .tom) × (length (now table) ≡ 16384) × (m .window ≤ 0x4000000) ⌝ }
+    requires { ⌜ Tom (m .tom) × (length (now table) ≡ 16384) × (m .window ≤ 0x4000000) × (m .gmadr % 4 ≡ 0) ⌝ }
     ensures { λ t. ⌜ t ≡ memoryTarget m fences control (now (table .entry)) r ⌝ }
 {
     if r.kind <= 5 {

@@ -16,7 +16,7 @@ returns c =
 run-requires : tie.Need-run-requires
 run-requires c κs =
     let q = map-sound (c .before .before .before .before .before .before .before .before .before .before .args .tom) (c .before .before .before .before .before .before .before .before .before .before .args .s) _ (c .before .before .before .before .before .before .before .before .before .before .pre .0) (c .before .before .before .map-of .ensures) in
-    (q .0, c .before .before .before .before .before .before .before .before .before .before .pre .1 ∙ sym (q .2), c .before .before .before .before .before .before .before .before .before .before .pre .2, q .1)
+    (q .0, c .before .before .before .before .before .before .before .before .before .before .pre .1 ∙ sym (q .3), c .before .before .before .before .before .before .before .before .before .before .pre .2, q .1)
 
 returns-2 : tie.Need-returns-2
 returns-2 c =

@@ -8,7 +8,7 @@ use Rattle.replay.proofs.access.memory_target.Statement.{statement}
 use Rattle.replay.proofs.access.memory_target.Tie as tie
 
 resolve-requires : tie.Need-resolve-requires
-resolve-requires c κs = (c .before .before .before .before .before .before .pre .0, c .before .before .before .before .before .before .pre .1, route-in-window _ _ _ _ _ (c .before .before .before .before .before .before .pre .0) (c .before .before .before .before .before .before .pre .2) (c .route .ensures))
+resolve-requires c κs = (c .before .before .before .before .before .before .pre .0, c .before .before .before .before .before .before .pre .1, route-in-window _ _ _ _ _ (c .before .before .before .before .before .before .pre .0) (c .before .before .before .before .before .before .pre .2) (c .before .before .before .before .before .before .pre .3) (c .route .ensures))
 
 returns : tie.Need-returns
 unfolding memoryTarget

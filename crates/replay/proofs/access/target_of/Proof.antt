@@ -16,7 +16,7 @@ unfolding targetOf
 returns-2 c = c .port-target .ensures ∙ rw (c .before .wide .ensures .0) (sym (pick-false _ _ (rw (← c .before .before .before .before .before .before .fits-word .ensures) (c .before .before .before .before .before .if1 .left)) ∙ pick-true _ _ (le-leb _ _ (c .before .before .before .if2 .taken))))
 
 memory-target-requires : tie.Need-memory-target-requires
-memory-target-requires c κs = let q = map-sound (c .before .before .before .before .before .before .before .args .tom) (c .before .before .before .before .before .before .before .args .t2) _ (c .before .before .before .before .before .before .before .pre .0) (c .before .map-of .ensures) in (q .0, c .before .before .before .before .before .before .before .pre .1, q .1)
+memory-target-requires c κs = let q = map-sound (c .before .before .before .before .before .before .before .args .tom) (c .before .before .before .before .before .before .before .args .t2) _ (c .before .before .before .before .before .before .before .pre .0) (c .before .map-of .ensures) in (q .0, c .before .before .before .before .before .before .before .pre .1, q .1, q .2)
 
 returns-3 : tie.Need-returns-3
 unfolding targetOf
