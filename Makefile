@@ -6,6 +6,7 @@ CARGO = cargo --offline
 HOST = --manifest-path host/Cargo.toml
 
 demo:
+	@test -e target/staticlib/libdesk.a || echo "First build: the model is proved before it is compiled, which takes some minutes."
 	@$(CARGO) run $(HOST) --release --quiet --bin mitrophel -- demo
 
 test:
