@@ -18,6 +18,8 @@ use Rattle.gmch.specs.Table
 use Rattle.gmch.specs.Mapped
 use Rattle.gmch.specs.Ring
 use Rattle.gmch.specs.Replay
+use Rattle.gmch.specs.Isolation
+use Rattle.gmch.specs.declared.State.{State}
 use Rattle.gmch.specs.declared.Reach.{Reach}
 use Rattle.gmch.specs.declared.Reach.the-variants.{At, Denied}
 
@@ -146,3 +148,26 @@ pub whole-case : Replay.replay 0 0x800000 (Replay.coldStart 0) Replay.coldTable 
     ∷ (0x00 ∷ 0x02 ∷ 0x00 ∷ 0x00 ∷ 0x00 ∷ 0x00 ∷ 0x00 ∷ 0x00 ∷ 0x86 ∷ 0x80 ∷ 0x20 ∷ 0x71 ∷ 0x00 ∷ 0x00 ∷ 0x00 ∷ 0x00 ∷ []) ∷ []
 unfolding line read write names smram placed registers window last answer code target address value count smramAfter entry ring offset marked allEqual pick _and_ _or_ within loadLe storeLe bytesOf Records.isWrite Records.takesData Records.isProcessor Records.isManagement Records.wellFormed Records.fitsWord Records.codeOf Records.numberOf Records.addressOf Records.answerBytes Smram.segment Smram.hsegActs Smram.smramWritten Rows.rows Rows.rowIn Rows.masksOf Rows.defaultsFrom Rows.idByte Rows.coldBytes Config.present Config.ours Config.portTarget Config.fixedAt Config.writableAt Config.merge Config.newByte Config.writeByte Config.writeBytes Config.touches Config.configWrite Config.readByte Config.configRead Config.registerValue Config.registerWritten Map.windowSize Map.windowBase Map.graphicsOn Map.mapFrom Map.lowOpen Map.lowTarget Map.topTarget Map.hsegTarget Map.hsegHit Map.routeOf Map.masterTarget Map.lowProtected Map.protectedAt Fence.fenceSize Fence.fenceMatches Fence.illFormed Fence.tile Fence.fenceReach Fence.fenced Table.foreign Table.entryReach Table.translate Table.translated Mapped.listedWord Mapped.listedHalf Mapped.misfit Mapped.isEntry Mapped.isFence Mapped.regsValue Mapped.mappedValue Mapped.regsWritten Mapped.mappedWritten Mapped.tableWritten Mapped.lineOf Ring.next Ring.known Ring.advanced Ring.interrupted Ring.executed Ring.stepped Ring.stepOn Ring.onward Ring.run Ring.wordsLeft Replay.resolved Replay.memoryTarget Replay.targetOf Replay.valueAt Replay.stateAfter Replay.tableAfter Replay.memoryAfter Replay.access Replay.parsed Replay.coldRegs Replay.coldStart Replay.coldTable Replay.reset Replay.oneRecord Replay.answered Replay.replay Replay.badCall Replay.cut Replay.joined Replay.replayed Replay.call
 whole-case = refl
+
+-- What lands, in the state that SMRAM BEh leaves: demand 3's exceptions are met, and are no wider than they should be.
+locked : State
+locked = Replay.replay 0 0x800000 (Replay.coldStart 0) Replay.coldTable [] (smram 0xBE) .state
+
+reads : List ℕ → Bool
+reads r = Isolation.readLands 0x800000 locked Replay.coldTable (Records.recordOf r)
+
+writes : List ℕ → Bool
+writes r = Isolation.writeLands 0x800000 locked Replay.coldTable (Records.recordOf r)
+
+pub landing : List Bool
+landing =
+    -- management mode, in A0000h-BFFFFh and in the TSEG
+    reads (line 3 4 1 0xA0000 0) ∷ writes (line 5 4 1 0xBFFFC 7) ∷ reads (line 4 1 1 0x7FFFFF 0) ∷ writes (line 5 2 1 0x700000 7) ∷
+    -- management mode, in taken and in ordinary memory
+    reads (line 3 4 1 0x6FFFFC 0) ∷ reads (line 3 4 1 0x1000 0) ∷ writes (line 5 4 1 0x1000 7) ∷
+    -- without management mode, and a record that breaks the layout
+    reads (line 3 4 0 0xA0000 0) ∷ writes (line 5 4 0 0x700000 7) ∷ writes (line 5 4 3 0x700000 7) ∷ []
+
+pub landings : landing ≡ true ∷ true ∷ true ∷ true ∷ false ∷ false ∷ false ∷ false ∷ false ∷ false ∷ []
+unfolding line read write names smram placed registers window last answer code target address value count smramAfter entry ring offset marked allEqual pick _and_ _or_ within loadLe storeLe bytesOf Records.isWrite Records.takesData Records.isProcessor Records.isManagement Records.wellFormed Records.fitsWord Records.codeOf Records.numberOf Records.addressOf Records.answerBytes Smram.segment Smram.hsegActs Smram.smramWritten Rows.rows Rows.rowIn Rows.masksOf Rows.defaultsFrom Rows.idByte Rows.coldBytes Config.present Config.ours Config.portTarget Config.fixedAt Config.writableAt Config.merge Config.newByte Config.writeByte Config.writeBytes Config.touches Config.configWrite Config.readByte Config.configRead Config.registerValue Config.registerWritten Map.windowSize Map.windowBase Map.graphicsOn Map.mapFrom Map.lowOpen Map.lowTarget Map.topTarget Map.hsegTarget Map.hsegHit Map.routeOf Map.masterTarget Map.lowProtected Map.protectedAt Fence.fenceSize Fence.fenceMatches Fence.illFormed Fence.tile Fence.fenceReach Fence.fenced Table.foreign Table.entryReach Table.translate Table.translated Mapped.listedWord Mapped.listedHalf Mapped.misfit Mapped.isEntry Mapped.isFence Mapped.regsValue Mapped.mappedValue Mapped.regsWritten Mapped.mappedWritten Mapped.tableWritten Mapped.lineOf Ring.next Ring.known Ring.advanced Ring.interrupted Ring.executed Ring.stepped Ring.stepOn Ring.onward Ring.run Ring.wordsLeft Replay.resolved Replay.memoryTarget Replay.targetOf Replay.valueAt Replay.stateAfter Replay.tableAfter Replay.memoryAfter Replay.access Replay.parsed Replay.coldRegs Replay.coldStart Replay.coldTable Replay.reset Replay.oneRecord Replay.answered Replay.replay Replay.badCall Replay.cut Replay.joined Replay.replayed Replay.call locked reads writes landing Isolation.inProtected Isolation.lands Isolation.readLands Isolation.writeLands
+landings = refl
