@@ -48,7 +48,8 @@ fn with_error(smram: u8) -> u8
     smram / 2 * 2 + 1
 }
 
-// The state after an effect.
+// The state after an effect. `replay` carries out the first two itself, and shows that the bytes of a configuration write
+// are there.
 pub fn apply(board: u32, s: State, e: Effect) -> State
     requires { ⌜ Sound e ⌝ }
     ensures { λ t. ⌜ t ≡ applied board s e ⌝ }
@@ -88,7 +89,7 @@ fn ran(q: Ran) -> Decided
     }
 }
 
-// Zeroes the translation table.
+// Zeroes the translation table. `decide` shows its length.
 fn zero(table: &mut [u32])
     requires { ⌜ length (now table) ≡ 16384 ⌝ }
     ensures { λ _. ⌜ now (table .exit) ≡ coldTable ⌝ }
@@ -101,7 +102,7 @@ fn zero(table: &mut [u32])
     }
 }
 
-// Decides a record: its answer and its effect, and what it does to table and memory.
+// Decides a record: its answer and its effect; table and memory are changed here. `replay` shows the lengths.
 fn decide(tom: u32, s: State, table: &mut [u32], memory: &mut [u8], r: Record) -> Decided
     requires { ⌜ Tom tom × (length (now memory) ≡ tom) × (length (now table) ≡ 16384) ⌝ }
     ensures { λ d. ⌜ (d ≡ decide tom s (now (table .entry)) (now (memory .entry)) r) × (now (table .exit) ≡ tableBy tom s (now (table .entry)) r) × (now (memory .exit) ≡ memoryBy tom s (now (table .entry)) (now (memory .entry)) r) ⌝ }
