@@ -172,23 +172,32 @@ fn port(cf8: u32, smram: u32, width: u32, a: u32) {
 // An access at a port with its answer; v is written where `is_write`.
 fn record(s: State, is_write: bool, width: u32, a: u32, v: u32) -> State {
     let to = config::port_target(s.cf8, s.dev0[0x70] as u32, width, a);
-    let x = map::address_of(to);
     let mut after = s;
     let mut value: u32 = 0;
+    match to {
+        Target::Register(x) => {
+            if is_write {
+                after = put(s, x, width, v);
+            } else {
+                value = get(s, x, width);
+            }
+        }
+        _ => {}
+    }
     if is_write {
         text(b"record write ");
-        after = put(s, x, width, v);
     } else {
         text(b"record read  ");
-        value = get(s, x, width);
     }
     hex(a, 4);
     text(b"/");
     hex(width, 1);
     named(b" ", v);
     let answer = map::reply(to, value);
-    named(b"   code ", answer.code as u32);
-    named(b" target ", answer.target as u32);
+    text(b"   code ");
+    hex(answer.code as u32, 1);
+    text(b" target ");
+    hex(answer.target as u32, 1);
     named(b" address ", answer.address);
     named(b" value ", answer.value);
     after
