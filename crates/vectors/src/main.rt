@@ -29,9 +29,10 @@ fn named(name: &[u8], n: u32) {
     hex(n, 8);
 }
 
+// A refusal's code, in decimal as document 01 has it; all else is hexadecimal.
 fn refused(code: u8) {
-    text(b"   refused       ");
-    hex(code as u32, 2);
+    text(b"   refused   ");
+    io::print_decimal(1, code as u64);
 }
 
 fn target(t: Target) {
