@@ -1,8 +1,8 @@
 -- A scan of the rows, and where a byte stands in the register of its row.
-use mathlib.Core.Path.{_≡_, refl, sym}
+use mathlib.Core.Path.{_≡_, refl}
 use mathlib.Core.List.{List, [], _∷_}
 use mathlib.Core.Bool.{Bool, true, false}
-use Prim.Native.Nat.{ℕ, zero, suc, _+_, _-_, _*_, _/_, _%_, _^_, _<_, _≤_}
+use Prim.Native.Nat.{ℕ, zero, suc, _+_, _-_, _*_, _^_, _<_, _≤_}
 use native.Mathlib.Nat.{mod-lt, mul-suc, pow-suc}
 use native.Mathlib.Numerals.{add-one}
 use native.Mathlib.Omega.{arith}
@@ -11,7 +11,7 @@ use lib.Dec.{leb}
 use lib.ListN.{length, getD, drop, drop-of-length-le}
 use lib.Pow.{pow-add}
 use lib.Seq.{drop-cons}
-use Rattle.gmch.specs.Choice.{pick, _and_, within}
+use Rattle.gmch.specs.Choice.{_and_, within}
 use Rattle.gmch.specs.Rows.{row, rows, noRow, rowIn, masksOf}
 use Rattle.gmch.specs.declared.Row.{Row}
 use Rattle.gmch.specs.declared.Masks.{Masks}

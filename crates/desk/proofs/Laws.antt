@@ -1,13 +1,12 @@
 -- Code 1, one wrong argument at a time; and a call whose arguments are right.
 use Prim.Native.Nat.{ℕ, _/_, _%_, _≤_, _<_}
-use mathlib.Core.Path.{_≡_, refl, sym, _∙_}
+use mathlib.Core.Path.{_≡_, refl, _∙_}
 use mathlib.Core.Logic.{_≢_}
 use mathlib.Core.List.{List}
-use mathlib.Core.Bool.{Bool, true, false, not}
+use mathlib.Core.Bool.{Bool, true, false}
 use lib.ListN.{length}
-use lib.Dec.{ltb, eqb}
 use borrow.Author.Tests.{lt-ltb, le-ltb, eq-eqb, ne-eqb}
-use Rattle.gmch.specs.Choice.{pick, _or_}
+use Rattle.gmch.specs.Choice.{_or_}
 use Rattle.gmch.specs.Replay.{badCall, replayed, call, coldStart, coldTable}
 use Rattle.gmch.proofs.Choice.{choices}
 use Rattle.replay.specs.Flat.{Replays}

@@ -1,18 +1,18 @@
 -- Records and answers in flat bytes.
-use Prim.Native.Nat.{ℕ, zero, suc, _+_, _-_, _*_, _/_, _%_, _^_, _≤_, _<_}
+use Prim.Native.Nat.{ℕ, zero, suc, _+_, _-_, _/_, _%_, _^_, _≤_, _<_}
 use mathlib.Core.Path.{_≡_, refl, sym, ap, _∙_}
-use mathlib.Core.List.{List, [], _∷_, _++_, append-assoc, append-nil}
+use mathlib.Core.List.{List, [], _∷_, _++_}
 use native.Mathlib.Omega.{arith}
 use native.Mathlib.Nat.{add-zero, div-one, div-div-eq-div-mul, pow-suc, mul-comm}
 use borrow.Author.Tests.{ne-eqb}
 use mathlib.Core.Bool.{false}
-use lib.ListN.{length, getD, set, take, drop, length-append}
-use lib.Seq.{sets, sets-eq, length-sets, getD-take, getD-drop, drop-drop, take-at, take-append-le}
+use lib.ListN.{length, getD, set, take, drop}
+use lib.Seq.{sets, getD-take, getD-drop}
 use Rattle.gmch.specs.Words.{loadLe, storeLe, bytesOf}
 use Rattle.gmch.specs.Records.{recordOf, fitsWord, answerBytes}
 use Rattle.gmch.specs.declared.Answer.{Answer}
 use Rattle.gmch.proofs.Choice.{choices}
-use Rattle.gmch.proofs.Words.{loadLe-cong, length-bytesOf}
+use Rattle.gmch.proofs.Words.{length-bytesOf}
 
 -- ---- a part of a list
 

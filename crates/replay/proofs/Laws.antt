@@ -1,30 +1,26 @@
 -- A decision and its effect are one record of the definitions.
-use Prim.Native.Nat.{ℕ, zero, suc, _+_, _-_, _*_, _/_, _%_, _≤_, _<_}
-use mathlib.Core.Path.{_≡_, refl, sym, ap, _∙_}
-use mathlib.Core.List.{List, [], _∷_, _++_}
+use Prim.Native.Nat.{ℕ, _-_, _≤_, _<_}
+use mathlib.Core.Path.{_≡_, refl, sym}
+use mathlib.Core.List.{List}
 use mathlib.Core.Bool.{Bool, true, false, not}
 use native.Mathlib.Omega.{arith}
-use lib.ListN.{set, length}
-use lib.Dec.{eqb, ltb, leb}
+use lib.Dec.{eqb}
 use borrow.Author.Tests.{eq-eqb, ne-eqb, le-ltb}
 use mathlib.Core.Logic.{_≢_}
 use Rattle.gmch.specs.Choice.{pick, _and_, within}
 use Rattle.gmch.specs.Records.{isWrite, wellFormed, reply}
-use Rattle.gmch.specs.Config.{registerWritten, withRegs}
 use Rattle.gmch.specs.Map.{mapOf}
 use Rattle.gmch.specs.Mapped.{isEntry, isFence, mappedWritten, regsWritten}
-use Rattle.gmch.specs.Replay.{coldTable, targetOf, stateAfter, tableAfter, memoryAfter, Out, out, access, parsed, reset, coldStart, oneRecord}
+use Rattle.gmch.specs.Replay.{coldTable, targetOf, stateAfter, tableAfter, memoryAfter, out, access, parsed, reset, oneRecord}
 use Rattle.gmch.specs.declared.State.{State}
-use Rattle.gmch.specs.declared.Regs.{Regs}
 use Rattle.gmch.specs.declared.Record.{Record}
 use Rattle.gmch.specs.declared.Target.{Target}
 use Rattle.gmch.specs.declared.Target.the-variants.{Refused, Memory, Register, Hub, HubError, Vga, Mapped}
-use Rattle.gmch.proofs.Choice.{choices, pick-elim, pick-elim₂, clash, within-from, within-to}
+use Rattle.gmch.proofs.Choice.{choices, within-from}
 use Rattle.replay.specs.Decide.{effectAt, applied, decided, acted, runAnswer, decide, tableBy, memoryBy}
 use Rattle.replay.specs.declared.Decided.{Decided}
 use Rattle.gmch.specs.Ring.{run}
-use Rattle.replay.specs.declared.Effect.{Effect}
-use Rattle.replay.specs.declared.Effect.the-variants.{Keep, Ring, Configure, Store, Error, Reset}
+use Rattle.replay.specs.declared.Effect.the-variants.{Keep, Ring, Store, Reset}
 
 -- a choice between equals
 pub pick-same : {A : Type 0} (t : Bool) (x : A) → pick t x x ≡ x

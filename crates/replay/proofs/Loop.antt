@@ -1,15 +1,13 @@
 -- The replay over flat bytes is that of the definitions.
-use Prim.Native.Nat.{ℕ, zero, suc, _+_, _-_, _*_, _/_, _%_, _≤_, _<_}
+use Prim.Native.Nat.{ℕ, zero, suc, _+_, _-_, _*_, _/_, _≤_, _<_}
 use mathlib.Core.Path.{_≡_, refl, sym, ap, _∙_}
-use mathlib.Core.List.{List, [], _∷_, _++_, append-assoc, append-nil}
+use mathlib.Core.List.{List, _++_, append-assoc, append-nil}
 use native.Mathlib.Omega.{arith}
-use native.Mathlib.Nat.{add-zero}
-use native.Mathlib.Numerals.{add-one}
-use lib.ListN.{length, getD, set, take, drop, length-append}
-use lib.Seq.{sets, sets-eq, length-sets, drop-drop, take-append-le, length-take-le, take-append-add, take-at, take-all}
-use Rattle.gmch.specs.Records.{recordOf, answerBytes}
+use lib.ListN.{length, take, drop, length-append}
+use lib.Seq.{sets, sets-eq, length-sets, drop-drop, length-take-le, take-at, take-all}
+use Rattle.gmch.specs.Records.{answerBytes}
 use Rattle.gmch.specs.Mapped.{lineOf}
-use Rattle.gmch.specs.Replay.{Out, oneRecord, answered, Replayed, answering, replay, cut, joined}
+use Rattle.gmch.specs.Replay.{Out, oneRecord, answered, replay, cut, joined}
 use Rattle.gmch.specs.declared.State.{State}
 use Rattle.gmch.specs.Config.{withRegs}
 use Rattle.gmch.specs.declared.Regs.{Regs}

@@ -1,12 +1,11 @@
 -- What is left of the replay gives the whole: one law takes a turn of the loop, one ends it.
-use Prim.Native.Nat.{_≤_, _-_, _*_, _/_, _%_}
-use mathlib.Core.Path.{_≡_, refl, sym, _∙_}
+use Prim.Native.Nat.{_≤_, _-_, _/_}
+use mathlib.Core.Path.{_≡_, refl, _∙_}
 use mathlib.Core.Logic.{⊎-elim}
 use native.Mathlib.Nat.{sub-zero}
 use native.Mathlib.Omega.{arith}
 use borrow.Author.Needs.{needs}
 use lib.ListN.{length}
-use Rattle.gmch.specs.Map.{Tom}
 use Rattle.replay.specs.Decide.{applied}
 use Rattle.replay.specs.Flat.{replayFrom}
 use Rattle.replay.proofs.Bounds.{decide-sound}

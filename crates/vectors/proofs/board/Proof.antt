@@ -1,6 +1,6 @@
 -- 8 MiB is a length that memory may have, and both windows are of at most 64 MiB.
 use borrow.Author.Needs.{needs}
-use Prim.Native.Nat.{ℕ, _≤_, _^_}
+use Prim.Native.Nat.{_≤_, _^_}
 use mathlib.Core.Path.{refl, sym, subst}
 use mathlib.Core.Bool.{Bool, true, false}
 use lib.Dec.{lit≤}

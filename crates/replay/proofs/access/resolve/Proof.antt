@@ -1,5 +1,4 @@
 use borrow.Author.Needs.{needs}
-use mathlib.Core.Path.{refl}
 use Rattle.gmch.specs.Choice.{pick}
 use Rattle.gmch.specs.Replay.{resolved}
 use Rattle.replay.proofs.access.resolve.Statement.{statement}

@@ -1,8 +1,7 @@
 use borrow.Author.Needs.{needs}
 use native.Mathlib.Omega.{arith}
 use lib.ListN.{length-set}
-use mathlib.Core.Path.{_∙_, sym}
-use Rattle.gmch.proofs.Words.{length-storeLe}
+use mathlib.Core.Path.{_∙_}
 use Rattle.replay.proofs.Bytes.{answer-sets}
 use Rattle.replay.proofs.record.put_answer.Statement.{statement}
 use Rattle.replay.proofs.record.put_answer.Tie as tie
