@@ -1,0 +1,93 @@
+-- Document 01, 'Records and answers', 'Codes' and 'Where an address goes': one access, where it ends and what it does there.
+use Prim.Native.Nat.{ℕ}
+use mathlib.Core.List.{List}
+use mathlib.Core.Bool.{not}
+use lib.Dec.{leb}
+use Rattle.gmch.specs.Choice.{pick}
+use Rattle.gmch.specs.Words.{loadLe, storeLe}
+use Rattle.gmch.specs.Records.{accessOf, fitsWord, reply}
+use Rattle.gmch.specs.Config.{withError, smramOf, portTarget, registerValue, registerWritten}
+use Rattle.gmch.specs.Machine.{Machine, withState, withTable, withMain}
+use Rattle.gmch.specs.Map.{mapOf, routeOf, masterTarget}
+use Rattle.gmch.specs.Table.{windowReach, lookOf}
+use Rattle.gmch.specs.Mapped.{misfit, mappedValue, mappedWritten, tableWritten}
+use Rattle.gmch.specs.declared.Board.{Board}
+use Rattle.gmch.specs.declared.Map.{Map}
+use Rattle.gmch.specs.declared.Record.{Record}
+use Rattle.gmch.specs.declared.Access.{Access}
+use Rattle.gmch.specs.declared.Answer.{Answer}
+use Rattle.gmch.specs.declared.Look.{Look}
+use Rattle.gmch.specs.declared.Reach.{Reach}
+use Rattle.gmch.specs.declared.Reach.the-variants.{At, Denied}
+use Rattle.gmch.specs.declared.Target.{Target}
+use Rattle.gmch.specs.declared.Target.the-variants.{Refused, Memory, Register, Hub, HubError, Vga, Mapped}
+use Rattle.gmch.specs.declared.Route.{Route}
+use Rattle.gmch.specs.declared.Route.the-variants.{To, Registers, Window}
+
+-- ---- where it ends. Nothing here looks at the record's data
+
+abbrev pub reached : Reach → Target
+reached (At p) = Memory p
+reached (Denied c) = Refused c
+
+-- after routing: 10; or 9, 3, 4, 5, 7, 6
+unfoldable pub resolved : Map → List ℕ → ℕ → (ℕ → Look) → Access → Route → Target
+resolved m fences control look a (To t) = t
+resolved m fences control look a (Registers o) = pick (misfit o (a .width)) (Refused 10) (Mapped o)
+resolved m fences control look a (Window o) = reached (windowReach m fences control look o)
+
+-- of a record of kinds 1 to 7 that keeps the layout: 2; ports; the processor; hub masters
+unfoldable pub targetOf : Board → Machine → Record → Target
+targetOf b x r =
+    let s = x .state in
+    let m = mapOf b s in
+    let a = accessOf r in
+    pick (not (fitsWord (a .width) (a .address))) (Refused 2)
+    (pick (leb (r .kind) 2) (portTarget (s .cf8) (smramOf s) (a .width) (a .address))
+    (pick (leb (r .kind) 5) (resolved m (s .fences) (s .regs .control) (lookOf x) a (routeOf m a))
+    (masterTarget m a)))
+
+-- ---- what it does there
+
+-- the machine afterwards, and the answer
+pub record Out : Type 0 where
+  pub after : Machine
+  pub answer : Answer
+
+-- the answer for a target, with the value that was read
+abbrev pub done : Machine → Target → ℕ → Out
+done x t v = record { after = x; answer = reply t v }
+
+-- a read, or a write of v
+unfoldable pub act : Machine → Access → ℕ → Target → Out
+act x a v (Refused c) = done x (Refused c) 0
+act x a v (Memory p) =
+    pick (a .write)
+    (done (withMain x (storeLe (a .width) p v (x .memories .main))) (Memory p) 0)
+    (done x (Memory p) (loadLe (a .width) p (x .memories .main)))
+act x a v (Register n) =
+    pick (a .write)
+    (done (withState x (registerWritten (x .state) n (a .width) v)) (Register n) 0)
+    (done x (Register n) (registerValue (x .state) n (a .width)))
+act x a v (Hub p) = done x (Hub p) 0
+act x a v (HubError p) = done (withState x (withError (x .state))) (HubError p) 0
+act x a v (Vga o) = done x (Vga o) 0
+act x a v (Mapped o) =
+    pick (a .write)
+    (done (withTable (withState x (mappedWritten (x .state) o v)) (tableWritten (x .table) o v)) (Mapped o) 0)
+    (done x (Mapped o) (mappedValue (x .state .fences) (x .state .regs) (x .table) o))
+
+-- ---- the target's place in memory
+
+pub data Location : Type 0 where
+  Nowhere : Location
+  Main : ℕ → Location
+
+unfoldable pub locationOf : Target → Location
+locationOf (Refused c) = Nowhere
+locationOf (Memory p) = Main p
+locationOf (Register n) = Nowhere
+locationOf (Hub p) = Nowhere
+locationOf (HubError p) = Nowhere
+locationOf (Vga o) = Nowhere
+locationOf (Mapped o) = Nowhere

@@ -1,0 +1,42 @@
+-- Document 01, 'The board and its host': the host's call, which refuses wrong arguments with code 1.
+use Prim.Native.Nat.{ℕ, zero, suc, _/_, _%_}
+use mathlib.Core.List.{List, [], _∷_, _++_}
+use mathlib.Core.Bool.{Bool}
+use lib.ListN.{length, take, drop}
+use lib.Dec.{leb, eqb}
+use Rattle.gmch.specs.Choice.{pick, _and_}
+use Rattle.gmch.specs.Machine.{Memories}
+use Rattle.gmch.specs.Replay.{coldMachine, replay}
+use Rattle.gmch.specs.declared.Board.{Board}
+
+-- board kind, memory length, record length and answer length; where one is wrong, code 1
+unfoldable pub goodCall : Board → ℕ → ℕ → Bool
+goodCall b records answers =
+    leb (b .kind) 1
+    and (leb 0x800000 (b .tom) and leb (b .tom) 0x20000000 and eqb (b .tom % 0x800000) 0)
+    and (eqb (records % 16) 0 and leb (records / 16) 65535)
+    and eqb answers records
+
+-- the n records of 16 bytes each
+unfoldable pub cut : ℕ → List ℕ → List (List ℕ)
+cut zero bytes = []
+cut (suc n) bytes = take 16 bytes ∷ cut n (drop 16 bytes)
+
+unfoldable pub joined : List (List ℕ) → List ℕ
+joined [] = []
+joined (a ∷ as′) = a ++ joined as′
+
+-- what it returns and leaves
+pub record Called : Type 0 where
+  pub result : ℕ
+  pub memories : Memories
+  pub answers : List ℕ
+
+-- a cold start, all records in order, and 0; or 1, with nothing touched
+unfoldable pub call : ℕ → Memories → List ℕ → List ℕ → Called
+call kind memories records answers =
+    let b : Board = record { kind = kind; tom = length (memories .main) } in
+    let q = replay b (coldMachine b memories) (cut (length records / 16) records) in
+    pick (goodCall b (length records) (length answers))
+    (record { result = 0; memories = q .after .memories; answers = joined (q .answers) })
+    (record { result = 1; memories = memories; answers = answers })
