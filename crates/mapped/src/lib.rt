@@ -1,7 +1,7 @@
 // The memory-mapped registers: the accesses that fit them, their values, what writes leave, and the interrupt line.
 use gmch::Regs;
 use gmch::State;
-use map::within;
+use words::within;
 ghost use mathlib.Core.Path.{_≡_};
 ghost use lib.ListN.{length};
 ghost use Rattle.gmch.specs.Mapped.{listedWord, listedHalf, misfit, regsValue, mappedValue, regsWritten, mappedWritten, tableWritten, lineOf};
