@@ -12,6 +12,7 @@ use Rattle.gmch.specs.Map.{mapOf, routeOf, masterTarget}
 use Rattle.gmch.specs.Table.{windowReach, lookOf}
 use Rattle.gmch.specs.Mapped.{misfit, mappedValue, mappedWritten, tableWritten}
 use Rattle.gmch.specs.declared.Board.{Board}
+use Rattle.gmch.specs.declared.State.{State}
 use Rattle.gmch.specs.declared.Map.{Map}
 use Rattle.gmch.specs.declared.Record.{Record}
 use Rattle.gmch.specs.declared.Access.{Access}
@@ -36,16 +37,18 @@ resolved m fences control look a (To t) = t
 resolved m fences control look a (Registers o) = pick (misfit o (a .width)) (Refused 10) (Mapped o)
 resolved m fences control look a (Window o) = reached (windowReach m fences control look o)
 
--- of a record of kinds 1 to 7 that keeps the layout: 2; ports; the processor; hub masters
-unfoldable pub targetOf : Board → Machine → Record → Target
-targetOf b x r =
-    let s = x .state in
+-- an access of kinds 1 to 7: 2; ports; the processor; hub masters
+unfoldable pub targetIn : Board → State → (ℕ → Look) → ℕ → Access → Target
+targetIn b s look kind a =
     let m = mapOf b s in
-    let a = accessOf r in
     pick (not (fitsWord (a .width) (a .address))) (Refused 2)
-    (pick (leb (r .kind) 2) (portTarget (s .cf8) (smramOf s) (a .width) (a .address))
-    (pick (leb (r .kind) 5) (resolved m (s .fences) (s .regs .control) (lookOf x) a (routeOf m a))
+    (pick (leb kind 2) (portTarget (s .cf8) (smramOf s) (a .width) (a .address))
+    (pick (leb kind 5) (resolved m (s .fences) (s .regs .control) look a (routeOf m a))
     (masterTarget m a)))
+
+-- a record of these kinds that keeps the layout
+unfoldable pub targetOf : Board → Machine → Record → Target
+targetOf b x r = targetIn b (x .state) (lookOf x) (r .kind) (accessOf r)
 
 -- ---- what it does there
 
