@@ -2,9 +2,9 @@
 use Prim.Native.Nat.{ℕ}
 use mathlib.Core.Path.{_≡_}
 use mathlib.Core.List.{List}
-use Rattle.gmch.specs.Replay.{call}
+use Rattle.gmch.specs.Machine.{Memories}
+use Rattle.gmch.specs.Call.{Called, call}
 
-pub record Calls (board : ℕ) (memory records answers : List ℕ) (r : ℕ) (memory′ answers′ : List ℕ) : Type 0 where
-  pub result : r ≡ call board memory records answers .result
-  pub memories : memory′ ≡ call board memory records answers .memory
-  pub replies : answers′ ≡ call board memory records answers .answers
+abbrev pub Calls : ℕ → Memories → List ℕ → List ℕ → ℕ → Memories → List ℕ → Type 0
+Calls kind memories records answers r memories′ answers′ =
+    _≡_ {A = Called} (record { result = r; memories = memories′; answers = answers′ }) (call kind memories records answers)

@@ -4,7 +4,7 @@ use gmch::State;
 use words::within;
 ghost use mathlib.Core.Path.{_≡_};
 ghost use lib.ListN.{length};
-ghost use Rattle.gmch.specs.Mapped.{listedWord, listedHalf, misfit, regsValue, mappedValue, regsWritten, mappedWritten, tableWritten, lineOf};
+ghost use Rattle.gmch.specs.Mapped.{isEntry, listedWord, listedHalf, misfit, regsValue, mappedValue, regsWritten, mappedWritten, tableWritten, lineOf};
 
 // ---- the list
 
@@ -20,6 +20,13 @@ fn listed_half(o: u32) -> bool
     ensures { λ r. ⌜ r ≡ listedHalf o ⌝ }
 {
     within(0x20A0, 0x10, o) & (o % 4 < 2)
+}
+
+// `o` is in an entry of the translation table.
+pub fn is_entry(o: u32) -> bool
+    ensures { λ r. ⌜ r ≡ isEntry o ⌝ }
+{
+    within(0x10000, 0x10000, o)
 }
 
 // Code 10: an access of `width` bytes at `o` touches a listed register without being exactly it.

@@ -1,32 +1,41 @@
--- A decision and its effect are one record of the definitions.
-use Prim.Native.Nat.{ℕ, _-_, _≤_, _<_}
+-- A decision, with its effect carried out, is the definitions' access, target by target, and their record, kind by kind.
+use Prim.Native.Nat.{ℕ, _≤_, _<_}
 use mathlib.Core.Path.{_≡_, refl, sym}
+use mathlib.Core.Logic.{_≢_}
 use mathlib.Core.List.{List}
 use mathlib.Core.Bool.{Bool, true, false, not}
 use native.Mathlib.Omega.{arith}
+use lib.ListN.{length}
 use lib.Dec.{eqb}
 use borrow.Author.Tests.{eq-eqb, ne-eqb, le-ltb}
-use mathlib.Core.Logic.{_≢_}
-use Rattle.gmch.specs.Choice.{pick, _and_, within}
-use Rattle.gmch.specs.Records.{isWrite, wellFormed, reply}
-use Rattle.gmch.specs.Map.{mapOf}
-use Rattle.gmch.specs.Mapped.{isEntry, isFence, mappedWritten, regsWritten}
-use Rattle.gmch.specs.Replay.{coldTable, targetOf, stateAfter, tableAfter, memoryAfter, out, access, parsed, reset, oneRecord}
-use Rattle.gmch.specs.declared.State.{State}
-use Rattle.gmch.specs.declared.Record.{Record}
-use Rattle.gmch.specs.declared.Target.{Target}
-use Rattle.gmch.specs.declared.Target.the-variants.{Refused, Memory, Register, Hub, HubError, Vga, Mapped}
-use Rattle.gmch.proofs.Choice.{choices, within-from}
-use Rattle.replay.specs.Decide.{effectAt, applied, decided, acted, runAnswer, decide, tableBy, memoryBy}
-use Rattle.replay.specs.declared.Decided.{Decided}
+use Rattle.gmch.specs.Choice.{pick, within}
+use Rattle.gmch.specs.Words.{loadLe, storeLe}
+use Rattle.gmch.specs.Records.{accessOf, wellFormed, reply, resetReply}
+use Rattle.gmch.specs.Config.{withRegs}
+use Rattle.gmch.specs.Machine.{Machine, machine, lent}
+use Rattle.gmch.specs.Map.{Sized, mapFrom, mapOf}
+use Rattle.gmch.specs.Table.{fetch, lookIn, lookOf}
+use Rattle.gmch.specs.Mapped.{isEntry, isFence, mappedValue, regsWritten, mappedWritten, tableWritten}
 use Rattle.gmch.specs.Ring.{run}
-use Rattle.replay.specs.declared.Effect.the-variants.{Keep, Ring, Store, Reset}
+use Rattle.gmch.specs.Access.{Out, targetIn, targetOf, done, act}
+use Rattle.gmch.specs.Replay.{fetchFrom, runReply, parserRun, coldStart, coldTable, coldMachine, reset, oneRecord}
+use Rattle.gmch.specs.declared.Board.{Board}
+use Rattle.gmch.specs.declared.State.{State}
+use Rattle.gmch.specs.declared.Map.{Map}
+use Rattle.gmch.specs.declared.Ran.{Ran}
+use Rattle.gmch.specs.declared.Record.{Record}
+use Rattle.gmch.specs.declared.Access.{Access}
+use Rattle.gmch.specs.declared.Answer.{Answer}
+use Rattle.gmch.specs.declared.Target.the-variants.{Refused, Memory, Mapped}
+use Rattle.gmch.proofs.Choice.{choices, pick-elim, within-from}
+use Rattle.gmch.proofs.Steps.{run-memories}
+use Rattle.replay.specs.Decide.{Sound, applied, storeEffect}
+use Rattle.replay.specs.declared.Effect.the-variants.{Keep, Store}
 
--- a choice between equals
-pub pick-same : {A : Type 0} (t : Bool) (x : A) → pick t x x ≡ x
-unfolding pick
-pick-same true x = refl
-pick-same false x = refl
+abbrev out : State → List ℕ → List ℕ → Answer → Out
+out s table main a = record { after = machine s table main; answer = a }
+
+-- ---- an access, by its target
 
 -- a write of a table entry leaves the other registers
 entry-keeps : (s : State) (o v : ℕ) → isEntry o ≡ true → mappedWritten s o v ≡ s
@@ -47,71 +56,67 @@ entry-keeps s o v e =
       choices,
     )
 
-applied-access : (board : ℕ) (s : State) (write : Bool) (width v : ℕ) (t : Target) → applied board s (effectAt write width v t) ≡ stateAfter s write width v t
-unfolding applied effectAt stateAfter
-applied-access board s write width v (Refused c) = refl
-applied-access board s write width v (Memory a) = refl
-applied-access board s true width v (Register x) = simp choices
-applied-access board s false width v (Register x) = simp choices
-applied-access board s write width v (Hub a) = refl
-applied-access board s write width v (HubError a) = refl
-applied-access board s write width v (Vga o) = refl
-applied-access board s false width v (Mapped o) = simp choices
-applied-access board s true width v (Mapped o) = by (isEntry o) refl
-  where
-    by : (x : Bool) → isEntry o ≡ x → applied board s (pick (true and not (isEntry o)) (Store o v) Keep) ≡ pick true (mappedWritten s o v) s
-    by true e = simp (e, choices) (sym (entry-keeps s o v e))
-    by false e = simp (e, choices)
+module _ (s : State) (table main : List ℕ) (a : Access) (v : ℕ) where
+  abbrev x : Machine
+  x = machine s table main
 
--- ---- a record by its kind
+  pub memory-done : (p y : ℕ) (main′ : List ℕ) → y ≡ pick (a .write) 0 (loadLe (a .width) p main) → main′ ≡ pick (a .write) (storeLe (a .width) p v main) main
+      → out s table main′ (reply (Memory p) y) ≡ act x a v (Memory p)
+  unfolding act
+  memory-done p y main′ e f = by (a .write) refl
+    where
+      by : (w : Bool) → a .write ≡ w → out s table main′ (reply (Memory p) y) ≡ act x a v (Memory p)
+      by true h = rw (e, f, h) (simp choices)
+      by false h = rw (e, f, h) (simp choices)
 
-pub record Decision (tom : ℕ) (s : State) (table memory : List ℕ) (r : Record) (d : Decided) (t m : List ℕ) : Type 0 where
-  pub decision : decide tom s table memory r ≡ d
-  pub tables : tableBy tom s table r ≡ t
-  pub memories : memoryBy tom s table memory r ≡ m
+  pub mapped-done : (o y : ℕ) (table′ : List ℕ) → y ≡ pick (a .write) 0 (mappedValue (s .fences) (s .regs) table o)
+      → table′ ≡ pick (a .write) (tableWritten table o v) table
+      → out (applied s (storeEffect (a .write) o v)) table′ main (reply (Mapped o) y) ≡ act x a v (Mapped o)
+  unfolding act applied storeEffect
+  mapped-done o y table′ e f = by (a .write) (isEntry o) refl refl
+    where
+      by : (w k : Bool) → a .write ≡ w → isEntry o ≡ k
+          → out (applied s (storeEffect (a .write) o v)) table′ main (reply (Mapped o) y) ≡ act x a v (Mapped o)
+      by false k h i = rw (e, f, h) (simp choices)
+      by true true h i = rw (e, f, h) (simp (i, entry-keeps s o v i, choices))
+      by true false h i = rw (e, f, h) (simp (i, choices))
 
-module _ (tom : ℕ) (s : State) (table memory : List ℕ) (r : Record) where
-  pub malformed : not (wellFormed r) ≡ true → Decision tom s table memory r (decided (reply (Refused 13) 0) Keep) table memory
-  unfolding decide tableBy memoryBy
-  malformed e = record { decision = simp (e, choices); tables = simp (e, choices); memories = simp (e, choices) }
+pub effect-sound : (write : Bool) (o v : ℕ) → Sound (storeEffect write o v)
+unfolding storeEffect
+effect-sound write o v = pick-elim Sound write (λ _. pick-elim Sound (isEntry o) (λ _. tt) (λ _. tt)) (λ _. tt)
+
+-- ---- a record, by its kind
+
+module _ (b : Board) (x : Machine) (r : Record) where
+  pub malformed : not (wellFormed r) ≡ true → done x (Refused 13) 0 ≡ oneRecord b x r
+  unfolding oneRecord
+  malformed e = simp (e, choices)
 
   module _ (e : not (wellFormed r) ≡ false) where
-    pub a-run : r .kind ≡ 8
-        → let q = run (mapOf tom s) table memory (r .value) 0 (s .regs) in
-        Decision tom s table memory r (decided (runAnswer q) (Ring (q .regs))) table memory
-    unfolding decide tableBy memoryBy
-    a-run k = let f = eq-eqb (r .kind) 8 k in record { decision = simp (e, f, choices); tables = simp (e, f, choices); memories = simp (e, f, choices) }
+    pub a-run : r .kind ≡ 8 → parserRun b x (r .value) ≡ oneRecord b x r
+    unfolding oneRecord
+    a-run k = simp (e, eq-eqb (r .kind) 8 k, choices)
 
     module _ (n : r .kind ≢ 8) where
-      pub a-reset : r .kind ≡ 9 → Decision tom s table memory r (decided (reply (Refused 0) 0) Reset) coldTable memory
-      unfolding decide tableBy memoryBy
-      a-reset k =
-          let f = ne-eqb (r .kind) 8 n in
-          let g = eq-eqb (r .kind) 9 k in
-          record { decision = simp (e, f, g, choices); tables = simp (e, f, g, choices); memories = simp (e, f, g, choices) }
+      pub a-reset : r .kind ≡ 9 → reset b x ≡ oneRecord b x r
+      unfolding oneRecord
+      a-reset k = simp (e, ne-eqb (r .kind) 8 n, eq-eqb (r .kind) 9 k, choices)
 
-      pub an-access : r .kind ≢ 9
-          → let t = targetOf tom s table r in
-          Decision tom s table memory r (acted s table memory (isWrite (r .kind)) (r .width) (r .value) t) (tableAfter table (isWrite (r .kind)) (r .value) t) (memoryAfter memory (isWrite (r .kind)) (r .width) (r .value) t)
-      unfolding decide tableBy memoryBy
-      an-access k =
-          let f = ne-eqb (r .kind) 8 n in
-          let g = ne-eqb (r .kind) 9 k in
-          record { decision = simp (e, f, g, choices); tables = simp (e, f, g, choices); memories = simp (e, f, g, choices) }
+      pub an-access : r .kind ≢ 9 → act x (accessOf r) (r .value) (targetIn b (x .state) (lookOf x) (r .kind) (accessOf r)) ≡ oneRecord b x r
+      unfolding oneRecord targetOf
+      an-access k = simp (e, ne-eqb (r .kind) 8 n, ne-eqb (r .kind) 9 k, choices)
 
--- the whole record
-module _ (board tom : ℕ) (s : State) (table memory : List ℕ) (r : Record) where
-  pub decide-is : out (applied board s (decide tom s table memory r .effect)) (tableBy tom s table r) (memoryBy tom s table memory r) (decide tom s table memory r .answer)
-      ≡ oneRecord board tom s table memory r
-  unfolding decide tableBy memoryBy oneRecord acted access parsed reset applied
-  decide-is = by (not (wellFormed r)) (eqb (r .kind) 8) (eqb (r .kind) 9) refl refl refl
-    where
-      G : Type 0
-      G = out (applied board s (decide tom s table memory r .effect)) (tableBy tom s table r) (memoryBy tom s table memory r) (decide tom s table memory r .answer)
-          ≡ oneRecord board tom s table memory r
+-- a run by the map that was read off the state, which leaves memory as it is
+module _ (b : Board) (s : State) (table main : List ℕ) (m : Map) (e : m ≡ mapOf b s) where
+  pub run-ready : Sized (mapOf b s) table → length main ≡ b .tom → Sized m table × (length main ≡ m .tom)
+  unfolding mapFrom
+  run-ready z l = rw e (z, l)
 
-      by : (x y z : Bool) → not (wellFormed r) ≡ x → eqb (r .kind) 8 ≡ y → eqb (r .kind) 9 ≡ z → G
-      by true y z p q w = simp (p, choices)
-      by false true z p q w = simp (p, q, choices)
-      by false false true p q w = simp (p, q, w, choices)
-      by false false false p q w = simp (p, q, w, choices, applied-access)
+  pub run-done : (budget : ℕ) (q : Ran) → q ≡ run (fetch m (s .regs .control) (lookIn table)) budget 0 (s .regs) (lent main) .ran
+      → out (withRegs s (q .regs)) table main (runReply q) ≡ parserRun b (machine s table main) budget
+  unfolding parserRun
+  run-done budget q f = rw (f, e, run-memories (fetchFrom b (machine s table main)) budget (s .regs) (lent main)) refl
+
+pub reset-done : (b : Board) (s : State) (table main : List ℕ) → out (coldStart (b .kind)) coldTable main resetReply ≡ reset b (machine s table main)
+unfolding reset coldMachine
+reset-done b s table main = refl

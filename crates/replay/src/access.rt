@@ -2,33 +2,33 @@
 use crate::Decided;
 use crate::Effect;
 use crate::record;
+use gmch::Access;
+use gmch::Board;
 use gmch::Map;
 use gmch::Reach;
-use gmch::Record;
 use gmch::Regs;
 use gmch::Route;
 use gmch::State;
 use gmch::Target;
 ghost use mathlib.Core.Path.{_≡_};
-ghost use mathlib.Core.Bool.{Bool};
-ghost use Prim.Native.Nat.{_+_, _%_, _≤_};
+ghost use Prim.Native.Nat.{_+_, _≤_};
 ghost use lib.ListN.{length};
 ghost use Rattle.gmch.specs.Choice.{pick};
 ghost use Rattle.gmch.specs.Words.{loadLe, storeLe};
-ghost use Rattle.gmch.specs.Records.{reply};
-ghost use Rattle.gmch.specs.Config.{Placed, registerValue};
-ghost use Rattle.gmch.specs.Map.{Tom, mapOf};
+ghost use Rattle.gmch.specs.Machine.{machine};
+ghost use Rattle.gmch.specs.Map.{Sized, mapOf};
+ghost use Rattle.gmch.specs.Table.{lookIn};
 ghost use Rattle.gmch.specs.Mapped.{mappedValue, tableWritten};
-ghost use Rattle.gmch.specs.Replay.{resolved, memoryTarget, targetOf, tableAfter, memoryAfter};
-ghost use Rattle.replay.specs.Decide.{Reachable, InWindow, decided, acted, effectAt};
+ghost use Rattle.gmch.specs.Access.{resolved, targetIn, act};
+ghost use Rattle.replay.specs.Decide.{Reachable, InWindow, Sound, storeEffect, carried};
 ghost use Rattle.words.specs.Width.{Width};
 
 // What the map goes by, read off the state.
-pub fn map_of(tom: u32, s: State) -> Map
-    ensures { λ r. ⌜ r ≡ mapOf tom s ⌝ }
+pub fn map_of(b: Board, s: State) -> Map
+    ensures { λ r. ⌜ r ≡ mapOf b s ⌝ }
 {
     map::map_from(
-        tom,
+        b,
         s.dev0[0x70],
         s.dev0[0x72],
         s.dev1[0x04],
@@ -40,86 +40,69 @@ pub fn map_of(tom: u32, s: State) -> Map
 
 // ---- where it ends
 
-// What the rules leave open: the list of registers, or fences and table. `memory_target` shows that an offset is in the window.
+// What the rules leave open: the list of registers, or fences and table. `target_of` shows that an offset is in the window.
 fn resolve(
     m: Map,
     fences: [u32; 8],
     control: u32,
     table: &[u32],
-    width: u32,
+    a: Access,
     route: Route,
 ) -> Target
-    requires { ⌜ Tom (m .tom) × (length (now table) ≡ 16384) × InWindow route ⌝ }
-    ensures { λ r. ⌜ r ≡ resolved m fences control (now (table .entry)) width route ⌝ }
+    requires { ⌜ Sized m (now table) × InWindow route ⌝ }
+    ensures { λ r. ⌜ r ≡ resolved m fences control (lookIn (now (table .entry))) a route ⌝ }
 {
     match route {
         Route::To(t) => t,
         Route::Registers(o) => {
-            if mapped::misfit(o, width) {
+            if mapped::misfit(o, a.width) {
                 return Target::Refused(10);
             }
             Target::Mapped(o)
         }
         Route::Window(o) => match graphics::window(m, fences, control, table, o) {
-            Reach::At(a) => Target::Memory(a),
+            Reach::At(p) => Target::Memory(p),
             Reach::Denied(c) => Target::Refused(c),
         },
     }
 }
 
-// The processor's accesses and the hub masters'.
-fn memory_target(m: Map, fences: [u32; 8], control: u32, table: &[u32], r: Record) -> Target
-    requires { ⌜ Tom (m .tom) × (length (now table) ≡ 16384) × (m .window ≤ 0x4000000) × (m .gmadr % 4 ≡ 0) ⌝ }
-    ensures { λ t. ⌜ t ≡ memoryTarget m fences control (now (table .entry)) r ⌝ }
+// An access of kinds 1 to 7.
+pub fn target_of(b: Board, s: State, table: &[u32], kind: u32, a: Access) -> Target
+    requires { ⌜ Sized (mapOf b s) (now table) ⌝ }
+    ensures { λ t. ⌜ t ≡ targetIn b s (lookIn (now (table .entry))) kind a ⌝ }
 {
-    if r.kind <= 5 {
-        let management = record::is_management(r);
-        let route = map::route(m, management, r.kind == 4, r.address);
-        return resolve(m, fences, control, table, r.width, route);
-    }
-    map::master_target(m, r.address)
-}
-
-// Any access of a record that keeps the layout.
-pub fn target_of(tom: u32, s: State, table: &[u32], r: Record) -> Target
-    requires { ⌜ Tom tom × (length (now table) ≡ 16384) ⌝ }
-    ensures { λ t. ⌜ t ≡ targetOf tom s (now (table .entry)) r ⌝ }
-{
-    if !record::fits_word(r.width, r.address) {
+    if !record::fits_word(a.width, a.address) {
         return Target::Refused(2);
     }
-    if r.kind <= 2 {
+    if kind <= 2 {
         let smram = words::wide(s.dev0[0x70]);
-        return config::port_target(s.cf8, smram, r.width, r.address);
+        return config::port_target(s.cf8, smram, a.width, a.address);
     }
-    let m = map_of(tom, s);
-    let fences = s.fences;
-    memory_target(m, fences, s.regs.control, table, r)
+    let m = map_of(b, s);
+    if kind <= 5 {
+        let fences = s.fences;
+        let route = map::route(m, a);
+        return resolve(m, fences, s.regs.control, table, a, route);
+    }
+    map::master_target(m, a)
 }
 
 // ---- what it does there
 
-// At an address of memory.
-fn in_memory(memory: &mut [u8], write: bool, width: u32, v: u32, a: u32) -> Decided
-    requires { ⌜ Width width × (a + width ≤ length (now memory)) ⌝ }
-    ensures { λ r. ⌜ (r ≡ decided (reply (Target.Memory a) (pick write 0 (loadLe width a (now (memory .entry))))) Effect.Keep) × (now (memory .exit) ≡ pick write (storeLe width a v (now (memory .entry))) (now (memory .entry))) ⌝ }
+// At an address of memory: the value read.
+fn in_memory(memory: &mut [u8], write: bool, width: u32, v: u32, p: u32) -> u32
+    requires { ⌜ Width width × (p + width ≤ length (now memory)) ⌝ }
+    ensures { λ r. ⌜ (r ≡ pick write 0 (loadLe width p (now (memory .entry)))) × (now (memory .exit) ≡ pick write (storeLe width p v (now (memory .entry))) (now (memory .entry))) ⌝ }
 {
-    let t = Target::Memory(a);
     if write {
-        words::store(memory, a as usize, width, v);
-        return Decided {
-            answer: map::reply(t, 0),
-            effect: Effect::Keep,
-        };
+        words::store(memory, p as usize, width, v);
+        return 0;
     }
-    let x = words::load(memory, a as usize, width);
-    Decided {
-        answer: map::reply(t, x),
-        effect: Effect::Keep,
-    }
+    words::load(memory, p as usize, width)
 }
 
-// At a memory-mapped register: entries of the table are stored here, all else is left to the state.
+// At a memory-mapped register: the value read. Entries of the table are stored here, all else is left to the state.
 fn at_mapped(
     fences: [u32; 8],
     regs: Regs,
@@ -127,49 +110,28 @@ fn at_mapped(
     write: bool,
     v: u32,
     o: u32,
-) -> Decided
+) -> u32
     requires { ⌜ length (now table) ≡ 16384 ⌝ }
-    ensures { λ r. ⌜ (r ≡ decided (reply (Target.Mapped o) (pick write 0 (mappedValue fences regs (now (table .entry)) o))) (effectAt write 0 v (Target.Mapped o))) × (now (table .exit) ≡ tableAfter (now (table .entry)) write v (Target.Mapped o)) ⌝ }
+    ensures { λ r. ⌜ (r ≡ pick write 0 (mappedValue fences regs (now (table .entry)) o)) × (now (table .exit) ≡ pick write (tableWritten (now (table .entry)) o v) (now (table .entry))) ⌝ }
 {
-    let t = Target::Mapped(o);
     if write {
         mapped::table_written(table, o, v);
-        let a = map::reply(t, 0);
-        if map::within(0x10000, 0x10000, o) {
-            return Decided {
-                answer: a,
-                effect: Effect::Keep,
-            };
-        }
-        return Decided {
-            answer: a,
-            effect: Effect::Store(o, v),
-        };
+        return 0;
     }
-    let x = mapped::value(fences, regs, table, o);
-    Decided {
-        answer: map::reply(t, x),
-        effect: Effect::Keep,
-    }
+    mapped::value(fences, regs, table, o)
 }
 
-// At CF8h or a configuration register.
-fn at_register(s: State, write: bool, width: u32, v: u32, x: u32) -> Decided
-    requires { ⌜ Placed x width ⌝ }
-    ensures { λ r. ⌜ r ≡ decided (reply (Target.Register x) (pick write 0 (registerValue s x width))) (effectAt write width v (Target.Register x)) ⌝ }
+// What an access at a memory-mapped register asks of the state.
+fn store_effect(write: bool, o: u32, v: u32) -> Effect
+    ensures { λ e. ⌜ e ≡ storeEffect write o v ⌝ }
 {
-    let t = Target::Register(x);
     if write {
-        return Decided {
-            answer: map::reply(t, 0),
-            effect: Effect::Configure(x, width, v),
-        };
+        if mapped::is_entry(o) {
+            return Effect::Keep;
+        }
+        return Effect::Store(o, v);
     }
-    let y = config::register_value(s, x, width);
-    Decided {
-        answer: map::reply(t, y),
-        effect: Effect::Keep,
-    }
+    Effect::Keep
 }
 
 // An access where it ends. `decide` shows that the bytes are there.
@@ -177,36 +139,60 @@ pub fn act(
     s: State,
     table: &mut [u32],
     memory: &mut [u8],
-    write: bool,
-    width: u32,
+    a: Access,
     v: u32,
     t: Target,
 ) -> Decided
-    requires { ⌜ (length (now table) ≡ 16384) × Reachable (length (now memory)) width t ⌝ }
-    ensures { λ r. ⌜ (r ≡ acted s (now (table .entry)) (now (memory .entry)) write width v t) × (now (table .exit) ≡ tableAfter (now (table .entry)) write v t) × (now (memory .exit) ≡ memoryAfter (now (memory .entry)) write width v t) ⌝ }
+    requires { ⌜ (length (now table) ≡ 16384) × Reachable (length (now memory)) (a .width) t ⌝ }
+    ensures { λ d. ⌜ (carried s (now (table .exit)) (now (memory .exit)) d ≡ act (machine s (now (table .entry)) (now (memory .entry))) a v t) × Sound (d .effect) ⌝ }
 {
+    let write = a.write;
+    let width = a.width;
     match t {
-        Target::Memory(a) => in_memory(memory, write, width, v, a),
+        Target::Memory(p) => {
+            let x = in_memory(memory, write, width, v, p);
+            Decided {
+                answer: record::reply(t, x),
+                effect: Effect::Keep,
+            }
+        }
         Target::Mapped(o) => {
             let fences = s.fences;
             let regs = s.regs;
-            at_mapped(fences, regs, table, write, v, o)
+            let x = at_mapped(fences, regs, table, write, v, o);
+            let e = store_effect(write, o, v);
+            Decided {
+                answer: record::reply(t, x),
+                effect: e,
+            }
         }
-        Target::Register(x) => at_register(s, write, width, v, x),
+        Target::Register(n) => {
+            if write {
+                return Decided {
+                    answer: record::reply(t, 0),
+                    effect: Effect::Configure(n, width, v),
+                };
+            }
+            let x = config::register_value(s, n, width);
+            Decided {
+                answer: record::reply(t, x),
+                effect: Effect::Keep,
+            }
+        }
         Target::HubError(_) => Decided {
-            answer: map::reply(t, 0),
+            answer: record::reply(t, 0),
             effect: Effect::Error,
         },
         Target::Refused(_) => Decided {
-            answer: map::reply(t, 0),
+            answer: record::reply(t, 0),
             effect: Effect::Keep,
         },
         Target::Hub(_) => Decided {
-            answer: map::reply(t, 0),
+            answer: record::reply(t, 0),
             effect: Effect::Keep,
         },
         Target::Vga(_) => Decided {
-            answer: map::reply(t, 0),
+            answer: record::reply(t, 0),
             effect: Effect::Keep,
         },
     }

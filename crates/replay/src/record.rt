@@ -1,11 +1,16 @@
-// Records and answers in bytes: the layout (code 13) and the width (code 2).
+// Records and answers: the layout (code 13), the width (code 2), the access that a record asks for, and the answer for a
+// target.
+use gmch::Access;
 use gmch::Answer;
 use gmch::Record;
+use gmch::Target;
 ghost use mathlib.Core.Path.{_≡_};
 ghost use Prim.Native.Nat.{_+_, _≤_};
 ghost use lib.ListN.{length, take, drop};
 ghost use lib.Seq.{sets};
-ghost use Rattle.gmch.specs.Records.{recordOf, isWrite, takesData, isProcessor, isManagement, wellFormed, fitsWord, answerBytes};
+ghost use Rattle.gmch.specs.Records.{recordOf, isWrite, takesData, isProcessor, isManagement, accessOf, wellFormed, fitsWord, codeOf, numberOf, addressOf, reply, resetReply, answerBytes};
+
+// ---- records
 
 // The fields of the 16 bytes at `at`.
 pub fn record_at(records: &[u8], at: usize) -> Record
@@ -30,7 +35,7 @@ pub fn is_write(kind: u32) -> bool
     (kind == 2) | ((kind == 5) | (kind == 7))
 }
 
-// A write's data, and the budget of a parser run.
+// A write's value, and the budget of a parser run.
 fn takes_data(kind: u32) -> bool
     ensures { λ r. ⌜ r ≡ takesData kind ⌝ }
 {
@@ -49,6 +54,19 @@ pub fn is_management(r: Record) -> bool
     ensures { λ b. ⌜ b ≡ isManagement r ⌝ }
 {
     is_processor(r.kind) & (r.flags % 2 == 1)
+}
+
+// What a record of kinds 1 to 7 asks for.
+pub fn access_of(r: Record) -> Access
+    ensures { λ a. ⌜ a ≡ accessOf r ⌝ }
+{
+    Access {
+        management: is_management(r),
+        code: r.kind == 4,
+        write: is_write(r.kind),
+        width: r.width,
+        address: r.address,
+    }
 }
 
 // The record keeps the layout; else code 13.
@@ -73,6 +91,79 @@ pub fn fits_word(width: u32, address: u32) -> bool
         return false;
     }
     ((width == 1) | ((width == 2) | (width == 4))) & (address % 4 + width <= 4)
+}
+
+// ---- answers
+
+// The code that an answer gives for a target.
+fn code_of(t: Target) -> u8
+    ensures { λ r. ⌜ r ≡ codeOf t ⌝ }
+{
+    match t {
+        Target::Refused(c) => c,
+        Target::Memory(_) => 0,
+        Target::Register(_) => 0,
+        Target::Hub(_) => 0,
+        Target::HubError(_) => 0,
+        Target::Vga(_) => 0,
+        Target::Mapped(_) => 0,
+    }
+}
+
+// The target's number.
+fn number_of(t: Target) -> u8
+    ensures { λ r. ⌜ r ≡ numberOf t ⌝ }
+{
+    match t {
+        Target::Refused(_) => 0,
+        Target::Memory(_) => 1,
+        Target::Register(_) => 2,
+        Target::Hub(_) => 3,
+        Target::HubError(_) => 3,
+        Target::Vga(_) => 4,
+        Target::Mapped(_) => 5,
+    }
+}
+
+// The address.
+fn address_of(t: Target) -> u32
+    ensures { λ r. ⌜ r ≡ addressOf t ⌝ }
+{
+    match t {
+        Target::Refused(_) => 0,
+        Target::Memory(p) => p,
+        Target::Register(n) => n,
+        Target::Hub(p) => p,
+        Target::HubError(p) => p,
+        Target::Vga(o) => o,
+        Target::Mapped(o) => o,
+    }
+}
+
+// An access's answer, with the value that was read.
+pub fn reply(t: Target, v: u32) -> Answer
+    ensures { λ r. ⌜ r ≡ reply t v ⌝ }
+{
+    Answer {
+        code: code_of(t),
+        target: number_of(t),
+        address: address_of(t),
+        value: v,
+        count: 0,
+    }
+}
+
+// A reset's answer.
+pub fn reset_reply() -> Answer
+    ensures { λ r. ⌜ r ≡ resetReply ⌝ }
+{
+    Answer {
+        code: 0,
+        target: 0,
+        address: 0,
+        value: 0,
+        count: 0,
+    }
 }
 
 // Stores an answer's 16 bytes at `at`.

@@ -1,47 +1,41 @@
 use borrow.Author.Needs.{needs}
-use mathlib.Core.Path.{_≡_, _∙_, sym}
-use mathlib.Core.Bool.{true, false, not}
-use Rattle.gmch.specs.Records.{wellFormed}
-use Rattle.replay.proofs.Laws.{malformed, a-run, a-reset, an-access}
-use Rattle.replay.proofs.Bounds.{map-sound, target-reachable}
+use mathlib.Core.Path.{_∙_, ap}
+use mathlib.Core.Bool.{not}
+use Rattle.gmch.specs.Map.{mapFrom}
+use Rattle.gmch.proofs.Choice.{flag}
+use Rattle.replay.specs.Decide.{applied}
+use Rattle.replay.proofs.Laws.{malformed, a-run, a-reset, an-access, run-ready, run-done, reset-done}
+use Rattle.replay.proofs.Bounds.{target-reachable}
 use Rattle.replay.proofs.decide.Statement.{statement}
 use Rattle.replay.proofs.decide.Tie as tie
 
 returns : tie.Need-returns
-returns c =
-    let e : not (wellFormed (c .before .before .before .before .before .args .r)) ≡ true = rw (← c .before .before .well-formed .ensures) (c .before .if1 .taken) in
-    let q = malformed _ _ _ _ _ e in
-    (rw (c .reply .ensures) (sym (q .decision)), sym (q .tables), sym (q .memories))
-
-run-requires : tie.Need-run-requires
-run-requires c κs =
-    let q = map-sound (c .before .before .before .before .before .before .before .before .before .before .args .tom) (c .before .before .before .before .before .before .before .before .before .before .args .s) _ (c .before .before .before .before .before .before .before .before .before .before .pre .0) (c .before .before .before .map-of .ensures) in
-    (q .0, c .before .before .before .before .before .before .before .before .before .before .pre .1 ∙ sym (q .3), c .before .before .before .before .before .before .before .before .before .before .pre .2, q .1)
+unfolding applied
+returns c = rw (c .reply .ensures) (malformed _ _ _ (flag (ap not (c .before .before .well-formed .ensures)) (c .before .if1 .taken)), tt)
 
 returns-2 : tie.Need-returns-2
+unfolding applied
 returns-2 c =
-    let e : not (wellFormed (c .before .before .before .before .before .before .before .before .before .before .before .before .args .r)) ≡ false = rw (← c .before .before .before .before .before .before .before .before .before .well-formed .ensures) (c .before .before .before .before .before .before .before .before .if1 .left) in
-    let q = a-run _ _ _ _ _ e (c .before .before .before .before .before .before .if2 .taken) in
-    (c .ran .ensures ∙ rw (c .before .run .ensures, c .before .before .before .before .before .map-of .ensures) (sym (q .decision)), sym (q .tables), sym (q .memories))
+    let e = flag (ap not (c .before .before .before .before .before .before .before .before .before .before .well-formed .ensures)) (c .before .before .before .before .before .before .before .before .before .if1 .left) in
+    let s = c .before .before .before .before .before .before .before .before .before .before .before .before .before .args .s in
+    let q = run-done _ s (c .before .before .before .before .before .before .before .before .before .before .before .before .before .args .table .now) _ _ (c .before .before .before .before .before .before .map-of .ensures) _ _ (c .before .before .run .ensures) in
+    rw (c .run-reply .ensures) (q ∙ a-run _ _ _ e (c .before .before .before .before .before .before .before .if2 .taken), tt)
 
 returns-3 : tie.Need-returns-3
+unfolding applied
 returns-3 c =
-    let e : not (wellFormed (c .before .before .before .before .before .before .before .before .before .before .before .before .before .args .r)) ≡ false = rw (← c .before .before .before .before .before .before .before .before .before .before .well-formed .ensures) (c .before .before .before .before .before .before .before .before .before .if1 .left) in
-    let q = a-reset _ _ _ _ _ e (c .before .before .before .before .before .before .before .if2 .left) (c .before .before .before .before .before .if3 .taken) in
-    (rw (c .reply2 .ensures) (sym (q .decision)), c .before .before .before .zero .ensures ∙ sym (q .tables), sym (q .memories))
+    let e = flag (ap not (c .before .before .before .before .before .before .before .before .before .before .well-formed .ensures)) (c .before .before .before .before .before .before .before .before .before .if1 .left) in
+    rw (c .reset-reply .ensures, c .before .before .before .zero .ensures) (reset-done _ (c .before .before .before .before .before .before .before .before .before .before .before .before .before .args .s) (c .before .before .before .before .before .before .before .before .before .before .before .before .before .args .table .now) _ ∙ a-reset _ _ _ e (c .before .before .before .before .before .before .before .if2 .left) (c .before .before .before .before .before .if3 .taken), tt)
 
 act-requires : tie.Need-act-requires
+unfolding mapFrom
 act-requires c κs =
-    (c .before .before .before .before .before .before .before .before .before .before .before .before .before .pre .2, rw (c .before .before .before .before .before .before .before .before .before .before .before .before .before .pre .1, c .before .before .before .target-of .ensures) (target-reachable _ _ _ _ (c .before .before .before .before .before .before .before .before .before .before .before .before .before .pre .0)))
+    (c .before .before .before .before .before .before .before .before .before .before .before .before .before .pre .0 .3, rw (c .before .before .before .before .before .before .before .before .before .before .before .before .before .pre .1, c .before .before .target-of .ensures) (target-reachable _ _ _ _ _ (c .before .before .before .before .before .before .before .before .before .before .before .before .before .pre .0 .0)))
 
 returns-4 : tie.Need-returns-4
 returns-4 c =
-    let e : not (wellFormed (c .before .before .before .before .before .before .before .before .before .before .before .before .before .before .before .before .before .before .args .r)) ≡ false = rw (← c .before .before .before .before .before .before .before .before .before .before .before .before .before .before .before .well-formed .ensures) (c .before .before .before .before .before .before .before .before .before .before .before .before .before .before .if1 .left) in
-    let q = an-access _ _ _ _ _ e (c .before .before .before .before .before .before .before .before .before .before .before .before .if2 .left) (c .before .before .before .before .before .before .before .before .before .before .if3 .left) in
-    let a = c .before .before .before .before .act .ensures in
-    let t = c .before .before .before .before .before .before .before .before .target-of .ensures in
-    let w = c .before .before .before .before .before .before .before .is-write .ensures in
-    (a .0 ∙ rw (t, w) (sym (q .decision)), a .1 ∙ rw (t, w) (sym (q .tables)), a .2 ∙ rw (t, w) (sym (q .memories)))
+    let e = flag (ap not (c .before .before .before .before .before .before .before .before .before .before .before .before .before .before .before .well-formed .ensures)) (c .before .before .before .before .before .before .before .before .before .before .before .before .before .before .if1 .left) in
+    (c .before .before .before .before .act .ensures .0 ∙ rw (c .before .before .before .before .before .before .before .target-of .ensures, c .before .before .before .before .before .before .before .before .before .access-of .ensures) (an-access _ _ _ e (c .before .before .before .before .before .before .before .before .before .before .before .before .if2 .left) (c .before .before .before .before .before .before .before .before .before .before .if3 .left)), c .before .before .before .before .act .ensures .1)
 
 pub decide-spec : {M : Type 1} → statement M
 decide-spec =
@@ -51,7 +45,7 @@ decide-spec =
     (λ c κs. search needs)
     returns
     (λ c κs. search needs)
-    run-requires
+    (λ c κs. let q = run-ready _ (c .before .before .before .before .before .before .before .before .before .before .args .s) (c .before .before .before .before .before .before .before .before .before .before .args .table .now) (c .before .before .before .before .before .before .before .before .before .before .args .memory .now) _ (c .before .before .before .map-of .ensures) (c .before .before .before .before .before .before .before .before .before .before .pre .0) (c .before .before .before .before .before .before .before .before .before .before .pre .1) in (q .0 .0, q .1, q .0 .3, q .0 .1))
     (λ c κs. search needs)
     (λ c. search needs)
     (λ c. search needs)

@@ -6,37 +6,34 @@ use native.Mathlib.Nat.{sub-zero}
 use native.Mathlib.Omega.{arith}
 use borrow.Author.Needs.{needs}
 use lib.ListN.{length}
+use Rattle.gmch.specs.Machine.{machine}
+use Rattle.gmch.proofs.Routing.{sized}
 use Rattle.replay.specs.Decide.{applied}
 use Rattle.replay.specs.Flat.{replayFrom}
-use Rattle.replay.proofs.Bounds.{decide-sound}
 use Rattle.replay.proofs.Loop.{keep-is, ring-is, turn, finished}
 use Rattle.replay.proofs.replay.Statement.{statement}
 use Rattle.replay.proofs.replay.Tie as tie
 
 abbrev Inv-loop : tie.InvT-loop
-Inv-loop board table₀ memory₀ records answers₀ tom n s₀ i₀ table memory answers s i =
-    (i ≤ n) × (n ≡ length records / 16) × (tom ≡ length memory₀)
-    × (length table ≡ 16384) × (length memory ≡ tom) × (length answers ≡ length records)
-    × (replayFrom board tom records (n - i) i s table memory answers ≡ replayFrom board tom records n 0 s₀ table₀ memory₀ answers₀)
+Inv-loop b table₀ memory₀ records answers₀ n s₀ i₀ table memory answers s i =
+    (i ≤ n) × (n ≡ length records / 16) × (length table ≡ 16384) × (length memory ≡ b .tom) × (length answers ≡ length records)
+    × (replayFrom b records (n - i) i (machine s table memory) answers ≡ replayFrom b records n 0 (machine s₀ table₀ memory₀) answers₀)
 
 abbrev μ-loop : tie.MeasureT-loop
-μ-loop board table₀ memory₀ records answers₀ tom n s₀ i₀ table memory answers s i = n - i
+μ-loop b table₀ memory₀ records answers₀ n s₀ i₀ table memory answers s i = n - i
 
 loop-holds : tie.Need-loop-holds Inv-loop μ-loop
-loop-holds c = (omega arith, refl, refl, c .before .before .before .before .pre .1, refl, c .before .before .before .before .pre .3, rw sub-zero refl)
+loop-holds c = (omega arith, refl, c .before .before .before .before .pre .1, c .before .before .before .before .pre .2, c .before .before .before .before .pre .4, rw sub-zero refl)
 
 decide-requires : tie.Need-decide-requires Inv-loop μ-loop
-decide-requires c κs =
-    let h = c .before .before .before .before .loop .inv in
-    (rw (h .2) (c .before .before .before .before .before .before .before .before .before .pre .0), h .4, h .3)
-
-apply-requires : tie.Need-apply-requires Inv-loop μ-loop
-apply-requires c κs =
-    let h = c .before .before .before .before .before .before .before .before .before .before .loop .inv in
-    rw (c .before .before .before .before .before .decide .ensures .0) (decide-sound _ _ _ _ _ (rw (h .2) (c .before .before .before .before .before .before .before .before .before .before .before .before .before .before .before .pre .0)))
+decide-requires c κs = let l = c .before .before .before .before .loop in let h = l .inv in (sized _ (l .s) (l .table) (c .before .before .before .before .before .before .before .before .before .pre .0) (h .2), h .3)
 
 add-i : tie.Need-add-i Inv-loop μ-loop
-add-i c = let t = c .before .before .before .before .before .before .before .before .before .before .before .before .before .before .loop-test in let g = c .before .before .before .before .before .before .before .before .before .before .before .before .before .before .before .before .before .before .before .before .good in let f = c .before .before .before .before .before .before .before .before .before .before .before .before .before .before .before .before .before .before .before .before .fits in let s = c .before .before .before .before .before .before .before .before .before .before .before .before .before .before .before .before .before .shared-slice-known in omega arith
+add-i c =
+    let t = c .before .before .before .before .before .before .before .before .before .before .before .before .before .before .loop-test in
+    let g = c .before .before .before .before .before .before .before .before .before .before .before .before .before .before .before .before .before .before .before .before .good in
+    let s = c .before .before .before .before .before .before .before .before .before .before .before .before .before .before .before .before .before .shared-slice-known in
+    omega arith
 
 loop-again : tie.Need-loop-again Inv-loop μ-loop
 loop-again c =
@@ -45,25 +42,23 @@ loop-again c =
     let d = c .before .before .before .before .before .before .before .before .before .before .decide in
     let m = c .before .before .before .before .before .match in
     let p = c .before .before .put-answer in
-    let next : m .s ≡ applied (c .before .before .before .before .before .before .before .before .before .before .before .before .before .before .before .before .before .before .before .before .args .board) (l .s) (d .result .effect) =
-    ⊎-elim (λ w. w .2 ∙ keep-is _ _ _ (w .1 .given .1))
-    (λ k. ⊎-elim (λ w. w .3 ∙ ring-is _ _ _ _ (w .1 .given .1)) (λ w. w .2 ∙ w .1 .ensures) k) (m .came) in
+    let next : m .s ≡ applied (l .s) (d .result .effect) =
+    ⊎-elim (λ w. w .2 ∙ keep-is _ _ (w .1 .given .1))
+    (λ k. ⊎-elim (λ w. w .3 ∙ ring-is _ _ _ (w .1 .given .1)) (λ w. w .2 ∙ w .1 .ensures) k) (m .came) in
     let t = c .before .before .before .before .before .before .before .before .before .before .before .before .before .before .loop-test in (
       omega arith,
       h .1,
-      h .2,
-      d .kept .1 .1 .0 ∙ h .3,
-      d .kept .1 .1 .1 .0 ∙ h .4,
-      p .kept .0 ∙ h .5,
-      turn _ _ _ _ _ _ _ _ _ _ _ _ _ _ _ _ (c .before .before .before .before .before .before .before .before .before .before .before .before .before .before .loop-test .taken) (c .before .before .before .before .before .before .before .before .before .before .before .before .before .record-at .ensures) (d .ensures .0) (d .ensures .1) (d .ensures .2)
-          next (c .before .before .before .line .ensures) (p .ensures) ∙ h .6,
+      d .kept .1 .1 .0 ∙ h .2,
+      d .kept .1 .1 .1 .0 ∙ h .3,
+      p .kept .0 ∙ h .4,
+      turn _ _ _ _ _ _ _ _ _ _ _ _ _ _ _ (t .taken) (c .before .before .before .before .before .before .before .before .before .before .before .before .before .record-at .ensures) (d .ensures .0) next (c .before .before .before .line .ensures) (p .ensures) ∙ h .5,
     )
 
 returns : tie.Need-returns Inv-loop μ-loop
 returns c =
     let h = c .before .loop .inv in
     let q = c .before .before .before .before .before .before .pre in
-    finished _ _ _ _ _ _ _ _ _ _ _ _ _ (h .2) (h .1) (omega arith) (omega arith) (h .6)
+    finished _ _ _ _ _ _ _ _ (h .1) (omega arith) (omega arith) (h .5)
 
 pub replay-spec : {M : Type 1} → statement M
 replay-spec =
@@ -71,14 +66,13 @@ replay-spec =
     (tie.spec
     Inv-loop
     μ-loop
-    (λ c. omega arith)
     loop-holds
     (λ c. omega arith)
     (λ c κs. omega arith)
     decide-requires
     (λ c. search needs)
     (λ c. search needs)
-    apply-requires
+    (λ c κs. c .before .before .before .before .before .decide .ensures .1)
     (λ c κs. search needs)
     (λ c κs. let t = c .before .before .before .before .before .before .before .before .before .before .before .loop-test in let h = c .before .before .before .before .before .before .before .before .before .before .before .before .loop .inv in omega arith)
     add-i

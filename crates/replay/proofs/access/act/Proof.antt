@@ -1,70 +1,59 @@
 use borrow.Author.Needs.{needs}
-use mathlib.Core.Path.{refl}
-use Prim.Native.Nat.{ℕ}
-use Rattle.gmch.specs.Replay.{valueAt, tableAfter, memoryAfter}
-use Rattle.replay.specs.Decide.{acted, effectAt}
-use Rattle.replay.proofs.Laws.{pick-same}
+use mathlib.Core.Path.{refl, _∙_}
+use Rattle.gmch.specs.Choice.{pick}
+use Rattle.gmch.specs.Access.{act}
+use Rattle.replay.specs.Decide.{applied}
+use Rattle.replay.proofs.Laws.{memory-done, mapped-done, effect-sound}
 use Rattle.replay.proofs.access.act.Statement.{statement}
 use Rattle.replay.proofs.access.act.Tie as tie
 
-in-memory-requires : tie.Need-in-memory-requires
-in-memory-requires c κs = rw (c .before .before .t .given .1) at (c .before .before .before .before .before .before .pre .1)
-
-at-register-requires : tie.Need-at-register-requires
-at-register-requires c κs = rw (c .before .t3 .given .1) at (c .before .before .before .before .before .pre .1)
-
 returns : tie.Need-returns
-unfolding acted valueAt effectAt tableAfter memoryAfter
-returns c = rw (c .before .before .before .before .before .t .given .1) (c .before .before .in-memory .ensures .0, refl, c .before .before .in-memory .ensures .1)
+unfolding act applied pick
+returns c = rw (c .reply3 .ensures, c .before .before .before .t3 .given .1, c .before .if1 .taken) (refl, rw (c .before .before .before .t3 .given .1) at (c .before .before .before .before .before .before .before .pre .1))
 
 returns-2 : tie.Need-returns-2
-unfolding acted valueAt effectAt tableAfter memoryAfter
-returns-2 c = rw (c .before .before .before .before .before .before .before .t2 .given .1) (c .before .before .at-mapped .ensures .0, c .before .before .at-mapped .ensures .1, refl)
+unfolding applied
+returns-2 c = rw (c .reply .ensures, c .before .before .before .before .before .before .t .given .1) (memory-done _ _ _ _ _ _ _ _ (c .before .before .before .in-memory .ensures .0) (c .before .before .before .in-memory .ensures .1), tt)
 
 returns-3 : tie.Need-returns-3
-unfolding acted valueAt effectAt tableAfter memoryAfter
-returns-3 c = rw (c .before .before .t3 .given .1) (c .at-register .ensures, refl, refl)
+returns-3 c =
+    rw (c .reply2 .ensures, c .before .store-effect .ensures, c .before .before .before .before .before .before .before .before .before .t2 .given .1)
+    (mapped-done _ _ _ _ _ _ _ _ (c .before .before .before .before .at-mapped .ensures .0) (c .before .before .before .before .at-mapped .ensures .1), effect-sound _ _ _)
 
 returns-4 : tie.Need-returns-4
-unfolding acted valueAt effectAt tableAfter memoryAfter
-returns-4 c = rw (c .reply .ensures, c .before .enum-told .given .1) (rw (pick-same {A = ℕ} _ 0) refl, refl, refl)
-
-returns-5 : tie.Need-returns-5
-unfolding acted valueAt effectAt tableAfter memoryAfter
-returns-5 c = rw (c .reply2 .ensures, c .before .enum-told2 .given .1) (rw (pick-same {A = ℕ} _ 0) refl, refl, refl)
-
-returns-6 : tie.Need-returns-6
-unfolding acted valueAt effectAt tableAfter memoryAfter
-returns-6 c = rw (c .reply3 .ensures, c .before .enum-told3 .given .1) (rw (pick-same {A = ℕ} _ 0) refl, refl, refl)
-
-returns-7 : tie.Need-returns-7
-unfolding acted valueAt effectAt tableAfter memoryAfter
-returns-7 c = rw (c .reply4 .ensures, c .before .enum-told4 .given .1) (rw (pick-same {A = ℕ} _ 0) refl, refl, refl)
+unfolding act applied pick
+returns-4 c = rw (c .reply4 .ensures, c .before .before .before .before .t3 .given .1, c .before .before .if1 .left, c .before .register-value .ensures) (refl, tt)
 
 pub act-spec : {M : Type 1} → statement M
 act-spec =
     tie.close
     (tie.spec
     (λ c. search needs)
-    in-memory-requires
-    (λ c. search needs)
-    (λ c κs. search needs)
-    (λ c. search needs)
-    at-register-requires
-    (λ c. search needs)
+    (λ c κs. rw (c .before .before .t .given .1) at (c .before .before .before .before .before .before .pre .1))
     (λ c κs. search needs)
     (λ c. search needs)
     (λ c κs. search needs)
-    (λ c. search needs)
+    (λ c κs. search needs)
     (λ c κs. search needs)
     (λ c. search needs)
     (λ c κs. search needs)
-    (λ c. search needs)
     returns
+    (λ c κs. rw (c .before .before .t3 .given .1) at (c .before .before .before .before .before .before .pre .1))
+    (λ c κs. search needs)
+    (λ c. search needs)
+    (λ c κs. search needs)
+    (λ c. search needs)
+    (λ c κs. search needs)
+    (λ c. search needs)
+    (λ c κs. search needs)
+    (λ c. search needs)
+    (λ c κs. search needs)
     (λ c. search needs)
     returns-2
+    (λ c. search needs)
     returns-3
     returns-4
-    returns-5
-    returns-6
-    returns-7)
+    (λ c. unfold act applied in rw (c .reply5 .ensures, c .before .enum-told .given .1) (refl, tt))
+    (λ c. unfold act applied in rw (c .reply6 .ensures, c .before .enum-told2 .given .1) (refl, tt))
+    (λ c. unfold act applied in rw (c .reply7 .ensures, c .before .enum-told3 .given .1) (refl, tt))
+    (λ c. unfold act applied in rw (c .reply8 .ensures, c .before .enum-told4 .given .1) (refl, tt)))

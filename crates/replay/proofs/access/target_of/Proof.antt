@@ -1,26 +1,42 @@
 use borrow.Author.Needs.{needs}
-use mathlib.Core.Path.{_∙_, sym}
-use borrow.Author.Tests.{le-leb, lt-leb}
-use Rattle.gmch.specs.Replay.{targetOf}
-use Rattle.gmch.proofs.Choice.{pick-true, pick-false}
-use Rattle.replay.proofs.Bounds.{map-sound}
+use mathlib.Core.Path.{_∙_, sym, ap}
+use mathlib.Core.Bool.{not}
+use borrow.Author.Tests.{le-leb, lt-leb, not-false}
+use Rattle.gmch.specs.Map.{mapFrom}
+use Rattle.gmch.specs.Access.{targetIn}
+use Rattle.gmch.proofs.Choice.{flag, pick-true, pick-false}
+use Rattle.replay.proofs.Bounds.{route-ready}
 use Rattle.replay.proofs.access.target_of.Statement.{statement}
 use Rattle.replay.proofs.access.target_of.Tie as tie
 
 returns : tie.Need-returns
-unfolding targetOf
-returns c = sym (pick-true _ _ (rw (← c .before .fits-word .ensures) (c .if1 .taken)))
+unfolding targetIn
+returns c = sym (pick-true _ _ (flag (ap not (c .before .fits-word .ensures)) (c .if1 .taken)))
 
 returns-2 : tie.Need-returns-2
-unfolding targetOf
-returns-2 c = c .port-target .ensures ∙ rw (c .before .wide .ensures .0) (sym (pick-false _ _ (rw (← c .before .before .before .before .before .before .fits-word .ensures) (c .before .before .before .before .before .if1 .left)) ∙ pick-true _ _ (le-leb _ _ (c .before .before .before .if2 .taken))))
+unfolding targetIn
+returns-2 c =
+    let f = flag (ap not (c .before .before .before .before .before .fits-word .ensures)) (c .before .before .before .before .if1 .left) in
+    c .port-target .ensures ∙ rw (c .before .wide .ensures .0) (sym (pick-false _ _ f ∙ pick-true _ _ (le-leb _ _ (c .before .before .before .if2 .taken))))
 
-memory-target-requires : tie.Need-memory-target-requires
-memory-target-requires c κs = let q = map-sound (c .before .before .before .before .before .before .before .args .tom) (c .before .before .before .before .before .before .before .args .t2) _ (c .before .before .before .before .before .before .before .pre .0) (c .before .map-of .ensures) in (q .0, c .before .before .before .before .before .before .before .pre .1, q .1, q .2)
+resolve-requires : tie.Need-resolve-requires
+resolve-requires c κs =
+    let f = not-false _ (flag (ap not (c .before .before .before .before .before .before .fits-word .ensures)) (c .before .before .before .before .before .if1 .left)) in
+    route-ready _ (c .before .before .before .before .before .before .before .before .args .t2) (c .before .before .before .before .before .before .before .before .args .table .now) _ _ _ (c .before .before .before .before .before .before .before .before .pre) (c .before .before .before .map-of .ensures) f (c .route .ensures)
 
 returns-3 : tie.Need-returns-3
-unfolding targetOf
-returns-3 c = c .memory-target .ensures ∙ rw (c .before .before .map-of .ensures) (sym (pick-false _ _ (rw (← c .before .before .before .before .before .before .fits-word .ensures) (c .before .before .before .before .before .if1 .left)) ∙ pick-false _ _ (lt-leb _ _ (c .before .before .before .if2 .left))))
+unfolding targetIn
+returns-3 c =
+    let f = flag (ap not (c .before .before .before .before .before .before .before .fits-word .ensures)) (c .before .before .before .before .before .before .if1 .left) in
+    c .resolve .ensures
+    ∙ rw (c .before .route .ensures, c .before .before .before .before .map-of .ensures) (sym (pick-false _ _ f ∙ pick-false _ _ (lt-leb _ _ (c .before .before .before .before .before .if2 .left)) ∙ pick-true _ _ (le-leb _ _ (c .before .before .before .if3 .taken))))
+
+returns-4 : tie.Need-returns-4
+unfolding targetIn
+returns-4 c =
+    let f = flag (ap not (c .before .before .before .before .before .fits-word .ensures)) (c .before .before .before .before .if1 .left) in
+    c .master-target .ensures
+    ∙ rw (c .before .before .map-of .ensures) (sym (pick-false _ _ f ∙ pick-false _ _ (lt-leb _ _ (c .before .before .before .if2 .left)) ∙ pick-false _ _ (lt-leb _ _ (c .before .if3 .left))))
 
 pub target-of-spec : {M : Type 1} → statement M
 target-of-spec =
@@ -33,5 +49,8 @@ target-of-spec =
     (λ c κs. search needs)
     returns-2
     (λ c κs. search needs)
-    memory-target-requires
-    returns-3)
+    (λ c κs. unfold mapFrom in rw (c .before .before .map-of .ensures) (c .before .before .before .before .before .before .before .pre .0))
+    resolve-requires
+    returns-3
+    (λ c κs. unfold mapFrom in rw (c .before .map-of .ensures) (c .before .before .before .before .before .before .pre .0))
+    returns-4)
