@@ -35,3 +35,18 @@ pub mod reference;
 
 pub use call::{replay, Refused};
 pub use record::{Answer, Kind, Record, Refusal, Target};
+
+// README's Rust, as a doc test.
+#[cfg(doctest)]
+#[doc = include_str!("../../README.md")]
+struct Readme;
+
+#[cfg(test)]
+mod tests {
+    /// Tests check sums for overflow and keep debug assertions: `--release` is no profile for them.
+    #[test]
+    #[should_panic(expected = "attempt to add with overflow")]
+    fn tests_check_sums() {
+        debug_assert_eq!(std::hint::black_box(u8::MAX) + 1, 0);
+    }
+}

@@ -52,16 +52,13 @@ pub fn run_with<S: AsRef<OsStr>>(words: &[S], input: &[u8]) -> Run {
     finished(output)
 }
 
-/// What a finished run left. A build without the archive says so on standard error; that line is no
-/// part of any test.
+/// What a finished run left.
 pub fn finished(output: Output) -> Run {
-    let errors = String::from_utf8(output.stderr).expect("messages are UTF-8");
-    let errors: Vec<&str> = errors.lines().filter(|line| !line.contains("NO PROVED ARCHIVE")).collect();
     let run = Run {
         status: output.status.code().expect("the program was not killed"),
         text: String::from_utf8_lossy(&output.stdout).into_owned(),
         out: output.stdout,
-        errors: errors.join("\n"),
+        errors: String::from_utf8(output.stderr).expect("messages are UTF-8").trim_end().to_string(),
     };
     assert!(!run.errors.contains("panicked"), "{}", run.errors);
     run
