@@ -1,14 +1,14 @@
 -- A call whose arguments are wrong, and one whose arguments are right.
 use Prim.Native.Nat.{ℕ, _/_, _%_, _≤_}
-use mathlib.Core.Path.{_≡_, refl}
+use mathlib.Core.Path.{_≡_, refl, ap}
 use mathlib.Core.List.{List}
 use mathlib.Core.Bool.{Bool, true, false}
 use lib.ListN.{length}
 use borrow.Author.Tests.{leb-true, eqb-true}
 use Rattle.gmch.specs.Machine.{Machine, machine, lent}
 use Rattle.gmch.specs.Map.{Tom}
-use Rattle.gmch.specs.Replay.{coldStart, coldTable, coldMachine}
-use Rattle.gmch.specs.Call.{goodCall, call}
+use Rattle.gmch.specs.Replay.{Replayed, coldStart, coldTable, coldMachine, replay}
+use Rattle.gmch.specs.Call.{goodCall, cut, joined, call}
 use Rattle.gmch.specs.declared.Board.{Board}
 use Rattle.gmch.specs.declared.State.{State}
 use Rattle.gmch.proofs.Choice.{choices, and-left, and-right}
@@ -39,6 +39,9 @@ module _ (kind : ℕ) (main records answers : List ℕ) where
   abbrev b : Board
   b = record { kind = kind; tom = length main }
 
+  abbrev R : Replayed
+  R = replay b (machine (coldStart kind) coldTable main) (cut (length records / 16) records)
+
   pub refused : goodCall b (length records) (length answers) ≡ false → Calls kind (lent main) records answers 1 (lent main) answers
   unfolding call
   refused e = simp (e, choices)
@@ -47,4 +50,7 @@ module _ (kind : ℕ) (main records answers : List ℕ) where
       → (s s′ : State) (table table′ main′ answers′ : List ℕ) → s ≡ coldStart kind → table ≡ coldTable
       → Replays b (machine s table main) records (machine s′ table′ main′) answers′ → Calls kind (lent main) records answers 0 (lent main′) answers′
   unfolding call coldMachine
-  replayed e s s′ table table′ main′ answers′ es et q = simp (e, choices) ?
+  replayed e s s′ table table′ main′ answers′ es et q =
+      let m : main′ ≡ R .after .memories .main = rw (← es, ← et) (ap (λ (y : Machine). y .memories .main) (q .machines)) in
+      let a : answers′ ≡ joined (R .answers) = rw (← es, ← et) (q .answers) in
+      simp (e, choices) (rw (m, a) refl)

@@ -41,14 +41,7 @@ pub fn map_of(b: Board, s: State) -> Map
 // ---- where it ends
 
 // What the rules leave open: the list of registers, or fences and table. `target_of` shows that an offset is in the window.
-fn resolve(
-    m: Map,
-    fences: [u32; 8],
-    control: u32,
-    table: &[u32],
-    a: Access,
-    route: Route,
-) -> Target
+fn resolve(m: Map, fences: [u32; 8], control: u32, table: &[u32], a: Access, route: Route) -> Target
     requires { ⌜ Sized m (now table) × InWindow route ⌝ }
     ensures { λ r. ⌜ r ≡ resolved m fences control (lookIn (now (table .entry))) a route ⌝ }
 {
@@ -103,14 +96,7 @@ fn in_memory(memory: &mut [u8], write: bool, width: u32, v: u32, p: u32) -> u32
 }
 
 // At a memory-mapped register: the value read. Entries of the table are stored here, all else is left to the state.
-fn at_mapped(
-    fences: [u32; 8],
-    regs: Regs,
-    table: &mut [u32],
-    write: bool,
-    v: u32,
-    o: u32,
-) -> u32
+fn at_mapped(fences: [u32; 8], regs: Regs, table: &mut [u32], write: bool, v: u32, o: u32) -> u32
     requires { ⌜ length (now table) ≡ 16384 ⌝ }
     ensures { λ r. ⌜ (r ≡ pick write 0 (mappedValue fences regs (now (table .entry)) o)) × (now (table .exit) ≡ pick write (tableWritten (now (table .entry)) o v) (now (table .entry))) ⌝ }
 {
@@ -135,14 +121,7 @@ fn store_effect(write: bool, o: u32, v: u32) -> Effect
 }
 
 // An access where it ends. `decide` shows that the bytes are there.
-pub fn act(
-    s: State,
-    table: &mut [u32],
-    memory: &mut [u8],
-    a: Access,
-    v: u32,
-    t: Target,
-) -> Decided
+pub fn act(s: State, table: &mut [u32], memory: &mut [u8], a: Access, v: u32, t: Target) -> Decided
     requires { ⌜ (length (now table) ≡ 16384) × Reachable (length (now memory)) (a .width) t ⌝ }
     ensures { λ d. ⌜ (carried s (now (table .exit)) (now (memory .exit)) d ≡ act (machine s (now (table .entry)) (now (memory .entry))) a v t) × Sound (d .effect) ⌝ }
 {
