@@ -13,14 +13,14 @@ load4-requires : tie.Need-load4-requires
 load4-requires c κs =
     let s = c .before .before .before .before .before .before .before .before in
     let q = translate-at _ _ _ _ _ (sym (c .before .before .before .translate .ensures) ∙ c .before .a .given .1) in
-    let h = reached-fits _ _ (s .pre .0) (q .0) 4 (omega (arith, q .1, s .pre .4)) in
+    let h = reached-fits _ _ (s .pre .0 .0) (q .0) 4 (omega (arith, q .1, s .pre .2)) in
     omega (arith, s .pre)
 
 returns-2 : tie.Need-returns-2
 returns-2 c =
     let s = c .before .before .before .before .before .before .before .before .before in
     ap Word (c .load4 .ensures)
-    ∙ fetch-at _ _ _ _ _ (search tests) _ (s .pre .4) (sym (c .before .before .before .before .translate .ensures) ∙ c .before .before .a .given .1)
+    ∙ fetch-at _ _ _ _ _ (search tests) _ (s .pre .2) (sym (c .before .before .before .before .translate .ensures) ∙ c .before .before .a .given .1)
 
 returns-3 : tie.Need-returns-3
 returns-3 c = fetch-denied _ _ _ _ _ (search tests) _ (sym (c .before .before .before .translate .ensures) ∙ c .before .c .given .1)
