@@ -3,30 +3,55 @@ use gmch::Regs;
 use gmch::State;
 use words::within;
 ghost use mathlib.Core.Path.{_≡_};
+ghost use mathlib.Core.Bool.{true};
+ghost use Prim.Native.Nat.{_<_};
 ghost use lib.ListN.{length};
-ghost use Rattle.gmch.specs.Mapped.{isEntry, listedWord, listedHalf, misfit, regsValue, mappedValue, regsWritten, mappedWritten, tableWritten, lineOf};
+ghost use Rattle.gmch.specs.Mapped.{listedWord, listedHalf, misfit, isEntry, entryNumber, isFence, fenceNumber, regsValue, mappedValue, regsWritten, mappedWritten, tableWritten, lineOf};
 
 // ---- the list
 
-// The aligned word at `o` is a register of four bytes.
-fn listed_word(o: u32) -> bool
-    ensures { λ r. ⌜ r ≡ listedWord o ⌝ }
-{
-    within(0x2000, 0x24, o) | (within(0x2030, 0x10, o) | within(0x10000, 0x10000, o))
-}
-
-// `o` is in a register of two bytes.
-fn listed_half(o: u32) -> bool
-    ensures { λ r. ⌜ r ≡ listedHalf o ⌝ }
-{
-    within(0x20A0, 0x10, o) & (o % 4 < 2)
-}
-
-// `o` is in an entry of the translation table.
+// `o` is in an entry of the translation table, 10000h-1FFFFh.
 pub fn is_entry(o: u32) -> bool
     ensures { λ r. ⌜ r ≡ isEntry o ⌝ }
 {
     within(0x10000, 0x10000, o)
+}
+
+// The number of the entry that has `o`. The caller shows that one has.
+fn entry_number(o: u32) -> usize
+    requires { ⌜ isEntry o ≡ true ⌝ }
+    ensures { λ r. ⌜ (r ≡ entryNumber o) × (r < 16384) ⌝ }
+{
+    ((o - 0x10000) / 4) as usize
+}
+
+// `o` is in a fence, FENCE, 2000h-201Fh.
+fn is_fence(o: u32) -> bool
+    ensures { λ r. ⌜ r ≡ isFence o ⌝ }
+{
+    within(0x2000, 0x20, o)
+}
+
+// The number of the fence that has `o`. The caller shows that one has.
+fn fence_number(o: u32) -> usize
+    requires { ⌜ isFence o ≡ true ⌝ }
+    ensures { λ r. ⌜ (r ≡ fenceNumber o) × (r < 8) ⌝ }
+{
+    ((o - 0x2000) / 4) as usize
+}
+
+// The aligned word at `o` is a register of four bytes: FENCE, PGTBL_CTL, RINGBUF or an entry of the table.
+fn listed_word(o: u32) -> bool
+    ensures { λ r. ⌜ r ≡ listedWord o ⌝ }
+{
+    within(0x2000, 0x24, o) | (within(0x2030, 0x10, o) | is_entry(o))
+}
+
+// `o` is in a register of two bytes: IER, IIR, IMR or ISR.
+fn listed_half(o: u32) -> bool
+    ensures { λ r. ⌜ r ≡ listedHalf o ⌝ }
+{
+    within(0x20A0, 0x10, o) & (o % 4 < 2)
 }
 
 // Code 10: an access of `width` bytes at `o` touches a listed register without being exactly it.
@@ -44,19 +69,19 @@ pub fn misfit(o: u32, width: u32) -> bool
 
 // ---- reads
 
-// What a register that is a single number reads at `o`.
+// What a register that is a single number reads at `o`. ISR, 20ACh, reads 0.
 pub fn regs_value(r: Regs, o: u32) -> u32
     ensures { λ v. ⌜ v ≡ regsValue r o ⌝ }
 {
     match o {
-        0x2020 => r.control,
-        0x2030 => r.tail,
-        0x2034 => r.head,
-        0x2038 => r.start,
-        0x203C => r.pages,
-        0x20A0 => r.enable,
-        0x20A4 => r.identity,
-        0x20A8 => r.mask,
+        0x2020 => r.control, // PGTBL_CTL
+        0x2030 => r.tail, // RINGBUF tail
+        0x2034 => r.head, // RINGBUF head
+        0x2038 => r.start, // RINGBUF start
+        0x203C => r.pages, // RINGBUF length
+        0x20A0 => r.enable, // IER
+        0x20A4 => r.identity, // IIR
+        0x20A8 => r.mask, // IMR
         _ => 0,
     }
 }
@@ -66,13 +91,11 @@ pub fn value(fences: [u32; 8], r: Regs, table: &[u32], o: u32) -> u32
     requires { ⌜ length (now table) ≡ 16384 ⌝ }
     ensures { λ v. ⌜ v ≡ mappedValue fences r (now (table .entry)) o ⌝ }
 {
-    if within(0x10000, 0x10000, o) {
-        let i = ((o - 0x10000) / 4) as usize;
-        return table[i];
+    if is_entry(o) {
+        return table[entry_number(o)];
     }
-    if within(0x2000, 0x20, o) {
-        let i = ((o - 0x2000) / 4) as usize;
-        return fences[i];
+    if is_fence(o) {
+        return fences[fence_number(o)];
     }
     regs_value(r, o)
 }
@@ -85,35 +108,35 @@ pub fn regs_written(r: Regs, o: u32, v: u32) -> Regs
 {
     let mut q = r;
     match o {
-        0x2020 => {
+        0x2020 => { // PGTBL_CTL: base 31:12, on 0
             q.control = v & 0xFFFFF001;
             return q;
         }
-        0x2030 => {
+        0x2030 => { // RINGBUF tail: 20:3
             q.tail = v & 0x1FFFF8;
             return q;
         }
-        0x2034 => {
+        0x2034 => { // RINGBUF head: wraps 31:21, offset 20:2
             q.head = v & 0xFFFFFFFC;
             return q;
         }
-        0x2038 => {
+        0x2038 => { // RINGBUF start: 25:12
             q.start = v & 0x3FFF000;
             return q;
         }
-        0x203C => {
+        0x203C => { // RINGBUF length: pages less one 20:12, enable 0
             q.pages = v & 0x1FF001;
             return q;
         }
-        0x20A0 => {
+        0x20A0 => { // IER
             q.enable = v % 65536;
             return q;
         }
-        0x20A4 => {
+        0x20A4 => { // IIR: cleared by writing 1
             q.identity = r.identity & (65535 - v % 65536);
             return q;
         }
-        0x20A8 => {
+        0x20A8 => { // IMR
             q.mask = v % 65536;
             return q;
         }
@@ -128,9 +151,9 @@ pub fn written(s: State, o: u32, v: u32) -> State
     ensures { λ t. ⌜ t ≡ mappedWritten s o v ⌝ }
 {
     let mut t = s;
-    if within(0x2000, 0x20, o) {
-        let fence = ((o - 0x2000) / 4) as usize;
-        t.fences[fence] = v & 0x3F81771;
+    if is_fence(o) {
+        // Start 25:19, walk 12, size 10:8, pitch 6:4, valid 0.
+        t.fences[fence_number(o)] = v & 0x3F81771;
         return t;
     }
     let r = s.regs;
@@ -144,15 +167,14 @@ pub fn table_written(table: &mut [u32], o: u32, v: u32)
     requires { ⌜ length (now table) ≡ 16384 ⌝ }
     ensures { λ _. ⌜ now (table .exit) ≡ tableWritten (now (table .entry)) o v ⌝ }
 {
-    if within(0x10000, 0x10000, o) {
-        let entry = ((o - 0x10000) / 4) as usize;
-        table[entry] = v & 0x3FFFF007;
+    if is_entry(o) {
+        table[entry_number(o)] = v & 0x3FFFF007;
     }
 }
 
 // ---- interrupts
 
-// The interrupt line.
+// The interrupt line: IIR AND IER is not 0.
 pub fn line(r: Regs) -> u8
     ensures { λ l. ⌜ l ≡ lineOf r ⌝ }
 {

@@ -1,0 +1,10 @@
+use mathlib.Core.Path.{refl}
+use borrow.Author.Needs.{needs}
+use native.Mathlib.Omega.{arith}
+use Rattle.gmch.proofs.Choice.{within-from, within-to}
+use Rattle.gmch.specs.Mapped.{isEntry}
+use Rattle.mapped.proofs.entry_number.Statement.{statement}
+use Rattle.mapped.proofs.entry_number.Tie as tie
+
+pub entry-number-spec : {M : Type 1} → statement M
+entry-number-spec = tie.close (tie.spec (λ c. unfold isEntry in within-from _ _ _ (c .pre)) (λ c. search needs) (λ c. unfold isEntry in (refl, omega (arith, within-from 0x10000 0x10000 _ (c .pre), within-to 0x10000 0x10000 _ (c .pre)))))
