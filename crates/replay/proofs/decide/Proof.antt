@@ -18,7 +18,7 @@ unfolding applied
 returns-2 c =
     let e = flag (ap not (c .before .before .before .before .before .before .before .before .before .before .well-formed .ensures)) (c .before .before .before .before .before .before .before .before .before .if1 .left) in
     let s = c .before .before .before .before .before .before .before .before .before .before .before .before .before .args .s in
-    let q = run-done _ s (c .before .before .before .before .before .before .before .before .before .before .before .before .before .args .table .now) _ _ (c .before .before .before .before .before .before .map-of .ensures) _ _ (c .before .before .run .ensures) in
+    let q = run-done _ s (c .before .before .before .before .before .before .before .before .before .before .before .before .before .args .table .now) _ _ (c .before .before .before .before .before .before .map-of .ensures) _ _ (c .before .before .run .ensures .0) in
     rw (c .run-reply .ensures) (q ∙ a-run _ _ _ e (c .before .before .before .before .before .before .before .if2 .taken), tt)
 
 returns-3 : tie.Need-returns-3
@@ -26,6 +26,11 @@ unfolding applied
 returns-3 c =
     let e = flag (ap not (c .before .before .before .before .before .before .before .before .before .before .well-formed .ensures)) (c .before .before .before .before .before .before .before .before .before .if1 .left) in
     rw (c .reset-reply .ensures, c .before .before .before .zero .ensures) (reset-done _ (c .before .before .before .before .before .before .before .before .before .before .before .before .before .args .s) (c .before .before .before .before .before .before .before .before .before .before .before .before .before .args .table .now) _ ∙ a-reset _ _ _ e (c .before .before .before .before .before .before .before .if2 .left) (c .before .before .before .before .before .if3 .taken), tt)
+
+run-requires : tie.Need-run-requires
+run-requires c κs =
+    let c₀ = c .before .before .before .before .before .before .before .before .before .before in
+    run-ready _ (c₀ .args .s) (c₀ .args .table .now) (c₀ .args .memory .now) _ (c .before .before .before .map-of .ensures) (c₀ .pre .0) (c₀ .pre .1)
 
 act-requires : tie.Need-act-requires
 unfolding mapFrom
@@ -45,7 +50,7 @@ decide-spec =
     (λ c κs. search needs)
     returns
     (λ c κs. search needs)
-    (λ c κs. let q = run-ready _ (c .before .before .before .before .before .before .before .before .before .before .args .s) (c .before .before .before .before .before .before .before .before .before .before .args .table .now) (c .before .before .before .before .before .before .before .before .before .before .args .memory .now) _ (c .before .before .before .map-of .ensures) (c .before .before .before .before .before .before .before .before .before .before .pre .0) (c .before .before .before .before .before .before .before .before .before .before .pre .1) in (q .0 .0, q .1, q .0 .3, q .0 .1))
+    run-requires
     (λ c κs. search needs)
     (λ c. search needs)
     (λ c. search needs)

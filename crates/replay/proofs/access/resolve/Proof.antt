@@ -13,7 +13,7 @@ resolve-spec =
     (λ c κs. search needs)
     (λ c. unfold resolved pick in rw (c .before .before .before .route2 .given .1, ← c .before .misfit .ensures, c .if1 .taken))
     (λ c. search needs)
-    (λ c κs. (c .before .before .before .before .pre .0 .0, c .before .before .before .before .pre .0 .3, rw (c .before .route3 .given .1) at (c .before .before .before .before .pre .1)))
+    (λ c κs. (c .before .before .before .before .pre .0, rw (c .before .route3 .given .1) at (c .before .before .before .before .pre .1)))
     (λ c. search needs)
     (λ c. search needs)
     (λ c. unfold resolved in rw (c .before .route .given .1))
