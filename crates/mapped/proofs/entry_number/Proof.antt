@@ -1,3 +1,4 @@
+-- The offset is within the range.
 use mathlib.Core.Path.{refl}
 use borrow.Author.Needs.{needs}
 use native.Mathlib.Omega.{arith}
@@ -7,4 +8,9 @@ use Rattle.mapped.proofs.entry_number.Statement.{statement}
 use Rattle.mapped.proofs.entry_number.Tie as tie
 
 pub entry-number-spec : {M : Type 1} → statement M
-entry-number-spec = tie.close (tie.spec (λ c. unfold isEntry in within-from _ _ _ (c .pre)) (λ c. search needs) (λ c. unfold isEntry in (refl, omega (arith, within-from 0x10000 0x10000 _ (c .pre), within-to 0x10000 0x10000 _ (c .pre)))))
+entry-number-spec =
+    tie.close
+    (tie.spec
+    (λ c. unfold isEntry in within-from _ _ _ (c .pre))
+    (λ c. search needs)
+    (λ c. unfold isEntry in (refl, omega (arith, within-to _ _ _ (c .pre)))))
