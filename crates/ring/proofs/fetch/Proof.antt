@@ -1,37 +1,29 @@
 use borrow.Author.Needs.{needs}
 use borrow.Author.Tests.{lt-leb}
-use Prim.Native.Nat.{_≤_}
 use mathlib.Core.Path.{_≡_, sym, ap, _∙_}
 use mathlib.Core.Bool.{false}
 use native.Mathlib.Omega.{arith}
 use lib.Dec.{leb}
 use Rattle.gmch.specs.Table.{lookIn, translate, fetch}
 use Rattle.gmch.specs.declared.Reach.{Reach}
-use Rattle.gmch.specs.declared.Reach.the-variants.{At, Denied}
+use Rattle.gmch.specs.declared.Reach.the-variants.{At}
 use Rattle.gmch.specs.declared.Look.the-variants.{Word}
 use Rattle.gmch.proofs.Choice.{tests}
 use Rattle.gmch.proofs.Table.{translate-at, reached-fits, fetch-at, fetch-denied}
 use Rattle.ring.proofs.fetch.Statement.{statement}
 use Rattle.ring.proofs.fetch.Tie as tie
 
--- the test of the window
-past : (c : tie.Then1) → let s = c .before .before .before .before .args in s .m .window ≤ s .o
-past c = omega arith
-
+-- past the test of the window
 inside : (c : tie.Else1) → let s = c .before .before .before .before .args in leb (s .m .window) (s .o) ≡ false
 inside c = let s = c .before .before .before .before .args in lt-leb (s .m .window) (s .o) (omega arith)
 
 shown : {x y z : Reach} → x ≡ y → x ≡ z → y ≡ z
 shown p q = sym p ∙ q
 
--- the table reaches an address, or refuses
+-- what the table reaches
 reached : (c : tie.After-a) → let s = c .before .before .before .before .before .before .before .args in
     translate (s .m) (s .control) (lookIn (s .table .now)) (s .o) ≡ At (c .a .given .0 .0)
 reached c = search shown
-
-refused : (c : tie.After-c) → let s = c .before .before .before .before .before .before .before .args in
-    translate (s .m) (s .control) (lookIn (s .table .now)) (s .o) ≡ Denied (c .c .given .0 .0)
-refused c = search shown
 
 -- a fetch lies inside memory
 load4-requires : tie.Need-load4-requires
@@ -48,13 +40,13 @@ returns-2 c =
     ∙ fetch-at _ _ _ _ _ (inside (t .before .before .before)) _ (t .before .before .before .before .before .before .before .pre .2) (reached t)
 
 returns-3 : tie.Need-returns-3
-returns-3 c = fetch-denied _ _ _ _ _ (inside (c .before .before .before .before)) _ (refused (c .before))
+returns-3 c = fetch-denied _ _ _ _ _ (inside (c .before .before .before .before)) _ (sym (c .before .before .before .translate .ensures) ∙ c .before .c .given .1)
 
 pub fetch-spec : {M : Type 1} → statement M
 fetch-spec =
     tie.close
     (tie.spec
-    (λ c. unfold fetch in search (tests, past c))
+    (λ c. unfold fetch in search tests)
     (λ c κs. search needs)
     (λ c. search needs)
     (λ c. search needs)
