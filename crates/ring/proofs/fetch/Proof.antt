@@ -1,29 +1,46 @@
 use borrow.Author.Needs.{needs}
-use mathlib.Core.Path.{sym, ap, _∙_}
+use borrow.Author.Tests.{lt-leb}
+use mathlib.Core.Path.{_≡_, sym, ap, _∙_}
+use mathlib.Core.Bool.{false}
 use native.Mathlib.Omega.{arith}
-use Rattle.gmch.specs.Table.{fetch}
+use lib.Dec.{leb}
+use Rattle.gmch.specs.Table.{lookIn, translate, fetch}
+use Rattle.gmch.specs.declared.Reach.{Reach}
+use Rattle.gmch.specs.declared.Reach.the-variants.{At}
 use Rattle.gmch.specs.declared.Look.the-variants.{Word}
 use Rattle.gmch.proofs.Choice.{tests}
 use Rattle.gmch.proofs.Table.{translate-at, reached-fits, fetch-at, fetch-denied}
 use Rattle.ring.proofs.fetch.Statement.{statement}
 use Rattle.ring.proofs.fetch.Tie as tie
 
+-- past the test of the window
+inside : (c : tie.Else1) → let s = c .before .before .before .before .args in leb (s .m .window) (s .o) ≡ false
+inside c = let s = c .before .before .before .before .args in lt-leb (s .m .window) (s .o) (omega arith)
+
+shown : {x y z : Reach} → x ≡ y → x ≡ z → y ≡ z
+shown p q = sym p ∙ q
+
+-- what the table reaches
+reached : (c : tie.After-a) → let s = c .before .before .before .before .before .before .before .args in
+    translate (s .m) (s .control) (lookIn (s .table .now)) (s .o) ≡ At (c .a .given .0 .0)
+reached c = search shown
+
 -- a fetch lies inside memory
 load4-requires : tie.Need-load4-requires
 load4-requires c κs =
     let s = c .before .before .before .before .before .before .before .before in
-    let q = translate-at _ _ _ _ _ (sym (c .before .before .before .translate .ensures) ∙ c .before .a .given .1) in
+    let q = translate-at _ _ _ _ _ (reached (c .before)) in
     let h = reached-fits _ _ (s .pre .0 .0) (q .0) 4 (omega (arith, q .1, s .pre .2)) in
     omega (arith, s .pre)
 
 returns-2 : tie.Need-returns-2
 returns-2 c =
-    let s = c .before .before .before .before .before .before .before .before .before in
+    let t = c .before .before in
     ap Word (c .load4 .ensures)
-    ∙ fetch-at _ _ _ _ _ (search tests) _ (s .pre .2) (sym (c .before .before .before .before .translate .ensures) ∙ c .before .before .a .given .1)
+    ∙ fetch-at _ _ _ _ _ (inside (t .before .before .before)) _ (t .before .before .before .before .before .before .before .pre .2) (reached t)
 
 returns-3 : tie.Need-returns-3
-returns-3 c = fetch-denied _ _ _ _ _ (search tests) _ (sym (c .before .before .before .translate .ensures) ∙ c .before .c .given .1)
+returns-3 c = fetch-denied _ _ _ _ _ (inside (c .before .before .before .before)) _ (sym (c .before .before .before .translate .ensures) ∙ c .before .c .given .1)
 
 pub fetch-spec : {M : Type 1} → statement M
 fetch-spec =
