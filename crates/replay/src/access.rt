@@ -15,6 +15,7 @@ ghost use Prim.Native.Nat.{_+_, _≤_};
 ghost use lib.ListN.{length};
 ghost use Rattle.gmch.specs.Choice.{pick};
 ghost use Rattle.gmch.specs.Words.{loadLe, storeLe};
+ghost use Rattle.gmch.specs.Records.{reply};
 ghost use Rattle.gmch.specs.Machine.{machine};
 ghost use Rattle.gmch.specs.Map.{Sized, mapOf};
 ghost use Rattle.gmch.specs.Table.{lookIn};
@@ -83,6 +84,16 @@ pub fn target_of(b: Board, s: State, table: &[u32], kind: u32, a: Access) -> Tar
 
 // ---- what it does there
 
+// The answer for a target with the value that was read, and what is asked of the state.
+pub fn done(t: Target, v: u32, e: Effect) -> Decided
+    ensures { λ d. ⌜ d ≡ record { answer = reply t v; effect = e } ⌝ }
+{
+    Decided {
+        answer: record::reply(t, v),
+        effect: e,
+    }
+}
+
 // At an address of memory: the value read.
 fn in_memory(memory: &mut [u8], write: bool, width: u32, v: u32, p: u32) -> u32
     requires { ⌜ Width width × (p + width ≤ length (now memory)) ⌝ }
@@ -130,49 +141,25 @@ pub fn act(s: State, table: &mut [u32], memory: &mut [u8], a: Access, v: u32, t:
     match t {
         Target::Memory(p) => {
             let x = in_memory(memory, write, width, v, p);
-            Decided {
-                answer: record::reply(t, x),
-                effect: Effect::Keep,
-            }
+            done(t, x, Effect::Keep)
         }
         Target::Mapped(o) => {
             let fences = s.fences;
             let regs = s.regs;
             let x = at_mapped(fences, regs, table, write, v, o);
             let e = store_effect(write, o, v);
-            Decided {
-                answer: record::reply(t, x),
-                effect: e,
-            }
+            done(t, x, e)
         }
         Target::Register(n) => {
             if write {
-                return Decided {
-                    answer: record::reply(t, 0),
-                    effect: Effect::Configure(n, width, v),
-                };
+                return done(t, 0, Effect::Configure(n, width, v));
             }
             let x = config::register_value(s, n, width);
-            Decided {
-                answer: record::reply(t, x),
-                effect: Effect::Keep,
-            }
+            done(t, x, Effect::Keep)
         }
-        Target::HubError(_) => Decided {
-            answer: record::reply(t, 0),
-            effect: Effect::Error,
-        },
-        Target::Refused(_) => Decided {
-            answer: record::reply(t, 0),
-            effect: Effect::Keep,
-        },
-        Target::Hub(_) => Decided {
-            answer: record::reply(t, 0),
-            effect: Effect::Keep,
-        },
-        Target::Vga(_) => Decided {
-            answer: record::reply(t, 0),
-            effect: Effect::Keep,
-        },
+        Target::HubError(_) => done(t, 0, Effect::Error),
+        Target::Refused(_) => done(t, 0, Effect::Keep),
+        Target::Hub(_) => done(t, 0, Effect::Keep),
+        Target::Vga(_) => done(t, 0, Effect::Keep),
     }
 }
