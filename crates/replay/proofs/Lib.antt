@@ -1,4 +1,3 @@
 pub mod Laws
-pub mod Bytes
 pub mod Loop
 pub mod Bounds

@@ -21,7 +21,7 @@ use Rattle.replay.specs.Flat.{Flat, recordAt, replayFrom, Replays}
 use Rattle.replay.specs.declared.Decided.{Decided}
 use Rattle.replay.specs.declared.Effect.{Effect}
 use Rattle.replay.specs.declared.Effect.the-variants.{Keep, Ring}
-use Rattle.replay.proofs.Bytes.{length-answer}
+use Rattle.records.proofs.Bytes.{length-answer}
 
 length-answered : (o : Out) → length (answered o) ≡ 16
 unfolding answered

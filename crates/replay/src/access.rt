@@ -1,7 +1,6 @@
 // One access: where it ends, and what it does there.
 use crate::Decided;
 use crate::Effect;
-use crate::record;
 use gmch::Access;
 use gmch::Board;
 use gmch::Map;
@@ -66,7 +65,7 @@ pub fn target_of(b: Board, s: State, table: &[u32], kind: u32, a: Access) -> Tar
     requires { ⌜ Sized (mapOf b s) (now table) ⌝ }
     ensures { λ t. ⌜ t ≡ targetIn b s (lookIn (now (table .entry))) kind a ⌝ }
 {
-    if !record::fits_word(a.width, a.address) {
+    if !records::fits_word(a.width, a.address) {
         return Target::Refused(2);
     }
     if kind <= 2 {
@@ -89,7 +88,7 @@ pub fn done(t: Target, v: u32, e: Effect) -> Decided
     ensures { λ d. ⌜ d ≡ record { answer = reply t v; effect = e } ⌝ }
 {
     Decided {
-        answer: record::reply(t, v),
+        answer: records::reply(t, v),
         effect: e,
     }
 }

@@ -19,7 +19,6 @@ ghost use Rattle.replay.specs.Decide.{Sound, applied, carried};
 ghost use Rattle.replay.specs.Flat.{Replays};
 
 mod access;
-mod record;
 
 // What a record asks of the state.
 pub enum Effect {
@@ -106,7 +105,7 @@ pub fn decide(b: Board, s: State, table: &mut [u32], memory: &mut [u8], r: Recor
     requires { ⌜ Sized (mapOf b s) (now table) × (length (now memory) ≡ b .tom) ⌝ }
     ensures { λ d. ⌜ (carried s (now (table .exit)) (now (memory .exit)) d ≡ oneRecord b (machine s (now (table .entry)) (now (memory .entry))) r) × Sound (d .effect) ⌝ }
 {
-    if !record::well_formed(r) {
+    if !records::well_formed(r) {
         return access::done(Target::Refused(13), 0, Effect::Keep);
     }
     if r.kind == 8 {
@@ -122,11 +121,11 @@ pub fn decide(b: Board, s: State, table: &mut [u32], memory: &mut [u8], r: Recor
     if r.kind == 9 {
         zero(table);
         return Decided {
-            answer: record::reset_reply(),
+            answer: records::reset_reply(),
             effect: Effect::Reset(b.kind),
         };
     }
-    let a = record::access_of(r);
+    let a = records::access_of(r);
     let t = access::target_of(b, s, table, r.kind, a);
     access::act(s, table, memory, a, r.value, t)
 }
@@ -150,7 +149,7 @@ pub fn replay(
     let mut i = 0;
     while i < n {
         let at = 16 * i;
-        let r = record::record_at(records, at);
+        let r = records::record_at(records, at);
         let d = decide(b, s, table, memory, r);
         let e = d.effect;
         match e {
@@ -162,7 +161,7 @@ pub fn replay(
                 s = apply(s, e);
             }
         }
-        record::put_answer(answers, at, d.answer, mapped::line(s.regs));
+        records::put_answer(answers, at, d.answer, mapped::line(s.regs));
         i = i + 1;
     }
     s

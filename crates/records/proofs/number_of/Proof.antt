@@ -1,0 +1,23 @@
+use borrow.Author.Needs.{needs}
+use Rattle.gmch.specs.Records.{numberOf}
+use Rattle.records.proofs.number_of.Statement.{statement}
+use Rattle.records.proofs.number_of.Tie as tie
+
+pub number-of-spec : {M : Type 1} → statement M
+number-of-spec =
+    tie.close
+    (tie.spec
+    (λ c. search needs)
+    (λ c. search needs)
+    (λ c. search needs)
+    (λ c. search needs)
+    (λ c. search needs)
+    (λ c. search needs)
+    (λ c. search needs)
+    (λ c. unfold numberOf in search needs)
+    (λ c. unfold numberOf in search needs)
+    (λ c. unfold numberOf in search needs)
+    (λ c. unfold numberOf in search needs)
+    (λ c. unfold numberOf in search needs)
+    (λ c. unfold numberOf in search needs)
+    (λ c. unfold numberOf in search needs))

@@ -1,8 +1,0 @@
-use borrow.Author.Needs.{needs}
-use Rattle.gmch.specs.Choice.{_and_, _or_}
-use Rattle.gmch.specs.Records.{isManagement}
-use Rattle.replay.proofs.record.is_management.Statement.{statement}
-use Rattle.replay.proofs.record.is_management.Tie as tie
-
-pub is-management-spec : {M : Type 1} → statement M
-is-management-spec = tie.close (tie.spec (λ c κs. search needs) (λ c. unfold isManagement _and_ _or_ in cc))

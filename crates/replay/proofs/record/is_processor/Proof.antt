@@ -1,8 +1,0 @@
-use mathlib.Core.Path.{refl}
-use Rattle.gmch.specs.Choice.{_and_, _or_}
-use Rattle.gmch.specs.Records.{isProcessor}
-use Rattle.replay.proofs.record.is_processor.Statement.{statement}
-use Rattle.replay.proofs.record.is_processor.Tie as tie
-
-pub is-processor-spec : {M : Type 1} → statement M
-is-processor-spec = tie.close (tie.spec (λ c. unfold isProcessor _and_ _or_ in refl))
