@@ -1,4 +1,4 @@
 pub mod Both
 pub mod Bytes
-pub mod Filled
+pub mod Fill
 pub mod Scan

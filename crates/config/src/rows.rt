@@ -2,8 +2,9 @@
 use gmch::Masks;
 use gmch::Row;
 ghost use mathlib.Core.Path.{_≡_};
-ghost use Prim.Native.Nat.{ℕ, _*_, _<_};
+ghost use Prim.Native.Nat.{ℕ, _+_, _*_, _<_, _≤_};
 ghost use Rattle.gmch.specs.Choice.{within};
+ghost use Rattle.gmch.specs.Words.{storeLe};
 ghost use Rattle.gmch.specs.Rows.{rows, rowIn, byteOf, masksOf, defaultsFrom, idByte, coldBytes};
 
 const ROWS: [Row; 24] = [
@@ -240,16 +241,32 @@ pub fn masks_of(x: u32) -> Masks
     }
 }
 
-// The defaults of a device's 256 bytes.
+// Stores the `width` low bytes of n from `at` on.
+fn put_bytes(a: &mut [u8; 256], at: u32, width: u32, n: u32)
+    requires { ⌜ (at + width ≤ 256) × (width ≤ 4) ⌝ }
+    ensures { λ _. ⌜ now (a .exit) ≡ storeLe width at n (now (a .entry)) ⌝ }
+{
+    let mut k: u32 = 0;
+    while k < width {
+        let i = (at + k) as usize;
+        a[i] = byte_of(n, k) as u8;
+        k = k + 1;
+    }
+}
+
+// The defaults of a device's 256 bytes, row by row.
 fn default_bytes(device: u32) -> [u8; 256]
     requires { ⌜ device < 2 ⌝ }
     ensures { λ r. ⌜ r ≡ defaultsFrom (device * 256) 256 ⌝ }
 {
+    let table = ROWS;
     let mut a = [0u8; 256];
-    let mut i: u32 = 0;
-    while i < 256 {
-        let m = masks_of(device * 256 + i);
-        a[i as usize] = m.default as u8;
+    let mut i: usize = 0;
+    while i < 24 {
+        let r = table[i];
+        if r.at / 256 == device {
+            put_bytes(&mut a, r.at % 256, r.width, r.default);
+        }
         i = i + 1;
     }
     a
