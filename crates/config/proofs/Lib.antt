@@ -1,4 +1,5 @@
 pub mod Both
 pub mod Bytes
 pub mod Fill
-pub mod Scan
+pub mod Gather
+pub mod Stored
