@@ -4,7 +4,6 @@ use mathlib.Core.List.{List}
 use mathlib.Core.Bool.{Bool, true, false, _||_}
 use Prim.Native.Nat.{ℕ, zero, suc, _+_, _-_, _*_, _/_, _%_, _^_, _<_, _≤_}
 use native.Mathlib.Nat.{add-assoc}
-use native.Mathlib.Decide.{ℕ-discrete}
 use native.Mathlib.Omega.{arith}
 use borrow.Author.Tests.{lt-ltb, le-ltb, eqb-true, eq-eqb, ne-eqb}
 use lib.Bits.{bitAnd}
@@ -18,29 +17,11 @@ use Rattle.gmch.proofs.Choice.{pick-true, pick-false, and-left, and-right}
 use Rattle.config.specs.Word.{share, gathered, writableBits, clearingBits, fixedBits, bitsOf, newIn, writtenIn}
 use Rattle.config.specs.declared.Bits.{Bits}
 use Rattle.config.proofs.Bytes.{flagged}
+use Rattle.config.proofs.Every.{every, every-at}
 
 -- the first of the bytes that are left is written
-pub write-more : (b : Bits) (x i n v : ℕ) (l : List ℕ) → i < n
-    → writtenIn b (x + i) (n - i) v l ≡ writtenIn b (x + (i + 1)) (n - (i + 1)) (v / 256) (set l ((x + i) % 256) (newIn b (x + i) (getD l ((x + i) % 256) 0) (v % 256)))
-unfolding writtenIn
-write-more b x i n v l h =
-    let e : n - i ≡ suc (n - (i + 1)) = omega arith in
-    rw (← add-assoc x i 1, e)
 
 -- ---- a byte's bits of its word are its masks: a test over the 512 bytes
-
-every : (ℕ → Bool) → ℕ → Bool
-every f zero = true
-every f (suc n) = f n and every f n
-
-every-at : (f : ℕ → Bool) (n : ℕ) → every f n ≡ true → (i : ℕ) → i < n → f i ≡ true
-unfolding every
-every-at f zero e i h = absurd (omega arith)
-every-at f (suc n) e i h = by (ℕ-discrete i n) (every-at f n (and-right (f n) (every f n) e) i)
-  where
-    by : Dec (i ≡ n) → (i < n → f i ≡ true) → f i ≡ true
-    by (yes q) r = rw q (and-left (f n) (every f n) e)
-    by (no q) r = r (omega (arith, q))
 
 -- what a write stores in the byte x, where c and e say that 2Ch and 2Eh have been written
 storable : Bool → Bool → ℕ → ℕ
@@ -79,36 +60,39 @@ module _ (s : State) (x : ℕ) (h : x < 512) where
 -- ---- the bytes of a write, all of the word w
 
 written-0 : (n : ℕ) (s : State) (w x v : ℕ) → w < 64 → 4 * w ≤ x → x + n ≤ 4 * w + 4
-    → withDev0 s (writtenIn (bitsOf (s .wrote2c) (s .wrote2e) w) x n v (s .dev0)) ≡ writeBytes s x n v
+    → withDev0 s (writtenIn (bitsOf (s .wrote2c) (s .wrote2e) w) x x n v (s .dev0)) ≡ writeBytes s x n v
 unfolding writtenIn writeBytes writeByte
 written-0 zero s w x v l f u = refl
 written-0 (suc n) s w x v l f u =
-    let i : x % 256 ≡ x = omega arith in
     let h : x < 256 = omega arith in
     let a = set (s .dev0) x (newByte s x (getD (s .dev0) x 0) (v % 256)) in
-    rw (i, new-byte-is s x (omega arith) w (getD (s .dev0) x 0) (v % 256) (omega arith), pick-true (getD (s .dev0) x 0) (getD (s .dev1) (x - 256) 0) (lt-ltb _ _ h), pick-true (withDev0 s a) (withDev1 s (set (s .dev1) (x - 256) (newByte s x (getD (s .dev0) x 0) (v % 256)))) (lt-ltb _ _ h))
+    rw (new-byte-is s x (omega arith) w (getD (s .dev0) x 0) (v % 256) (omega arith), pick-true (getD (s .dev0) x 0) (getD (s .dev1) (x - 256) 0) (lt-ltb _ _ h), pick-true (withDev0 s a) (withDev1 s (set (s .dev1) (x - 256) (newByte s x (getD (s .dev0) x 0) (v % 256)))) (lt-ltb _ _ h))
     (written-0 n (withDev0 s a) w (x + 1) (v / 256) l (omega arith) (omega arith))
 
 written-1 : (n : ℕ) (s : State) (w x v : ℕ) → 64 ≤ w → w < 128 → 4 * w ≤ x → x + n ≤ 4 * w + 4
-    → withDev1 s (writtenIn (bitsOf (s .wrote2c) (s .wrote2e) w) x n v (s .dev1)) ≡ writeBytes s x n v
+    → withDev1 s (writtenIn (bitsOf (s .wrote2c) (s .wrote2e) w) x (x - 256) n v (s .dev1)) ≡ writeBytes s x n v
 unfolding writtenIn writeBytes writeByte
 written-1 zero s w x v o l f u = refl
 written-1 (suc n) s w x v o l f u =
-    let i : x % 256 ≡ x - 256 = omega arith in
+    let i : x + 1 - 256 ≡ x - 256 + 1 = omega arith in
     let h : 256 ≤ x = omega arith in
     let a = set (s .dev1) (x - 256) (newByte s x (getD (s .dev1) (x - 256) 0) (v % 256)) in
-    rw (i, new-byte-is s x (omega arith) w (getD (s .dev1) (x - 256) 0) (v % 256) (omega arith), pick-false (getD (s .dev0) x 0) (getD (s .dev1) (x - 256) 0) (le-ltb _ _ h), pick-false (withDev0 s (set (s .dev0) x (newByte s x (getD (s .dev1) (x - 256) 0) (v % 256)))) (withDev1 s a) (le-ltb _ _ h))
+    rw (← i, new-byte-is s x (omega arith) w (getD (s .dev1) (x - 256) 0) (v % 256) (omega arith), pick-false (getD (s .dev0) x 0) (getD (s .dev1) (x - 256) 0) (le-ltb _ _ h), pick-false (withDev0 s (set (s .dev0) x (newByte s x (getD (s .dev1) (x - 256) 0) (v % 256)))) (withDev1 s a) (le-ltb _ _ h))
     (written-1 n (withDev1 s a) w (x + 1) (v / 256) o l (omega arith) (omega arith))
 
 -- ---- a whole write: the bytes of a device, then the flags
 
 module _ (s : State) (x n v : ℕ) (u : x % 4 + n ≤ 4) (b : Bits) (p : b ≡ bitsOf (s .wrote2c) (s .wrote2e) (x / 4)) where
   module _ (l : List ℕ) (c e : Bool) (q : c ≡ touches 0x12C x n) (r : e ≡ touches 0x12E x n) where
-    pub stored-0 : x < 256 → l ≡ writtenIn b x n v (s .dev0) → withOnce (withDev0 s l) (s .wrote2c || c) (s .wrote2e || e) ≡ configWrite s x n v
-    stored-0 h k = flagged s (withDev0 s l) x n v c e (rw (k, p) (written-0 n s (x / 4) x v (omega arith) (omega arith) (omega arith))) q r
+    pub stored-0 : x < 256 → l ≡ writtenIn b x (x % 256) n v (s .dev0) → withOnce (withDev0 s l) (s .wrote2c || c) (s .wrote2e || e) ≡ configWrite s x n v
+    stored-0 h k =
+        let i : x % 256 ≡ x = omega arith in
+        flagged s (withDev0 s l) x n v c e (rw (k, p, i) (written-0 n s (x / 4) x v (omega arith) (omega arith) (omega arith))) q r
 
-    pub stored-1 : 256 ≤ x → x < 512 → l ≡ writtenIn b x n v (s .dev1) → withOnce (withDev1 s l) (s .wrote2c || c) (s .wrote2e || e) ≡ configWrite s x n v
-    stored-1 o h k = flagged s (withDev1 s l) x n v c e (rw (k, p) (written-1 n s (x / 4) x v (omega arith) (omega arith) (omega arith) (omega arith))) q r
+    pub stored-1 : 256 ≤ x → x < 512 → l ≡ writtenIn b x (x % 256) n v (s .dev1) → withOnce (withDev1 s l) (s .wrote2c || c) (s .wrote2e || e) ≡ configWrite s x n v
+    stored-1 o h k =
+        let i : x % 256 ≡ x - 256 = omega arith in
+        flagged s (withDev1 s l) x n v c e (rw (k, p, i) (written-1 n s (x / 4) x v (omega arith) (omega arith) (omega arith) (omega arith))) q r
 
 -- ---- a write with target Register x
 

@@ -9,8 +9,8 @@ ghost use lib.Dec.{ltb};
 ghost use lib.ListN.{getD};
 ghost use Rattle.gmch.specs.Choice.{pick};
 ghost use Rattle.gmch.specs.Smram.{smramWritten};
-ghost use Rattle.gmch.specs.Config.{byteAt, merge, touches, configWrite, readByte, configRead};
-ghost use Rattle.config.specs.Word.{newIn, writtenIn};
+ghost use Rattle.gmch.specs.Config.{byteAt, touches, configWrite, readByte, configRead};
+ghost use Rattle.config.specs.Word.{writtenIn, mergeWord, touchedBits, newWord};
 
 // What a write leaves in SMRAM: bit 0 is cleared by writing 1, and the lock holds the others.
 fn smram_written(old: u8, v: u8) -> u8
@@ -39,39 +39,51 @@ fn byte_at<'a>(dev0: &'a [u8; 256], dev1: &'a [u8; 256], x: u32) -> u8
     dev1[(x - 256) as usize]
 }
 
-// A byte by the masks of its row: the writable bits take v's, and the clearing bits that v has are cleared.
-fn merged(old: u8, v: u8, writable: u8, clearing: u8) -> u8
-    ensures { λ r. ⌜ r ≡ merge old v writable clearing ⌝ }
+// ---- writes
+
+// A word by the bits of its rows: the writable bits take v's, and the clearing bits that v has are cleared.
+fn merged(old: u32, v: u32, writable: u32, clearing: u32) -> u32
+    ensures { λ r. ⌜ r ≡ mergeWord old v writable clearing ⌝ }
 {
     (old & !writable | v & writable) & !(v & clearing)
 }
 
-// What a write of v leaves in the byte x, which was old.
-fn new_byte(b: Bits, x: u32, old: u8, v: u8) -> u8
-    ensures { λ r. ⌜ r ≡ newIn b x old v ⌝ }
+// All bits of the n bytes from byte k on.
+fn touched_bits(k: u32, n: u32) -> u32
+    requires { ⌜ (k < 4) × (k + n ≤ 4) ⌝ }
+    ensures { λ r. ⌜ r ≡ touchedBits k n ⌝ }
 {
-    if x == 0x70 {
-        return smram_written(old, v);
-    }
-    let writable = rows::byte_of(b.writable, x % 4);
-    let clearing = rows::byte_of(b.clearing, x % 4);
-    merged(old, v, writable as u8, clearing as u8)
+    let ones = ((1u64 << (8 * n)) - 1) as u32;
+    ones << (8 * k)
 }
 
-// Writes the `width` low bytes of v to the bytes of x's device. b is what a write may change of the aligned word of x.
-pub fn write(dev: &mut [u8; 256], b: Bits, x: u32, width: u32, v: u32)
-    requires { ⌜ (x < 512) × (x % 4 + width ≤ 4) ⌝ }
-    ensures { λ _. ⌜ now (dev .exit) ≡ writtenIn b x width v (now (dev .entry)) ⌝ }
+// What a write of the n low bytes of v at x leaves in the aligned word of x, which was old.
+fn new_word(b: Bits, x: u32, n: u32, old: u32, v: u32) -> u32
+    requires { ⌜ x % 4 + n ≤ 4 ⌝ }
+    ensures { λ r. ⌜ r ≡ newWord b x n old v ⌝ }
 {
-    let mut rest = v;
-    let mut i: u32 = 0;
-    while i < width {
-        let y = x + i;
-        let k = (y % 256) as usize;
-        dev[k] = new_byte(b, y, dev[k], (rest % 256) as u8);
-        rest = rest / 256;
-        i = i + 1;
+    let k = x % 4;
+    let t = touched_bits(k, n);
+    let new = merged(old, v << (8 * k), b.writable & t, b.clearing & t);
+    if (x == 0x70) & (0 < n) {
+        let smram = smram_written((old % 256) as u8, (v % 256) as u8);
+        return new / 256 * 256 + smram as u32;
     }
+    new
+}
+
+// Writes the n low bytes of v at x, in the bytes of x's device. b is what a write may change of the aligned word of x.
+pub fn write(dev: &mut [u8; 256], b: Bits, x: u32, n: u32, v: u32)
+    requires { ⌜ x % 4 + n ≤ 4 ⌝ }
+    ensures { λ _. ⌜ now (dev .exit) ≡ writtenIn b x (x % 256) n v (now (dev .entry)) ⌝ }
+{
+    let at = (x % 256 / 4 * 4) as usize;
+    let b0 = words::wide(dev[at]);
+    let b1 = words::wide(dev[at + 1]);
+    let b2 = words::wide(dev[at + 2]);
+    let b3 = words::wide(dev[at + 3]);
+    let old = b0 + b1 * 256 + b2 * 65536 + b3 * 16777216;
+    words::store4(dev, at, new_word(b, x, n, old, v));
 }
 
 // Whether n bytes at x touch one of the two bytes at k.

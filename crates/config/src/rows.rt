@@ -189,7 +189,7 @@ const ROWS: [Row; 24] = [
 ];
 
 // Byte k of a number, from the lowest. No register is wider than four bytes.
-pub fn byte_of(n: u32, k: u32) -> u32
+fn byte_of(n: u32, k: u32) -> u32
     requires { ⌜ k < 4 ⌝ }
     ensures { λ r. ⌜ r ≡ byteOf n k ⌝ }
 {

@@ -24,6 +24,6 @@ config-write-spec =
     (λ c κs. tt)
     (λ c κs. omega arith)
     (λ c κs. omega arith)
-    (λ c κs. c .before .before .before .before .before .pre)
-    (λ c κs. c .before .before .before .before .before .pre)
+    (λ c κs. c .before .before .before .before .before .pre .1)
+    (λ c κs. c .before .before .before .before .before .pre .1)
     returns)
