@@ -1,4 +1,8 @@
 pub mod Both
 pub mod Bytes
-pub mod Filled
-pub mod Scan
+pub mod Device
+pub mod Every
+pub mod Fill
+pub mod Gather
+pub mod Merged
+pub mod Stored

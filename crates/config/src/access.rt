@@ -1,13 +1,16 @@
 // Reads and writes of configuration bytes. A byte is named by x = device * 256 + register, and register_value and
 // register_written show that it is below 512. Bytes are taken from the state in place: passing it on would copy it.
+use crate::Bits;
+use crate::rows;
 use gmch::State;
 ghost use mathlib.Core.Path.{_≡_};
-ghost use Prim.Native.Nat.{ℕ, _+_, _-_, _<_, _≤_};
+ghost use Prim.Native.Nat.{ℕ, _+_, _-_, _%_, _<_, _≤_};
 ghost use lib.Dec.{ltb};
 ghost use lib.ListN.{getD};
 ghost use Rattle.gmch.specs.Choice.{pick};
 ghost use Rattle.gmch.specs.Smram.{smramWritten};
-ghost use Rattle.gmch.specs.Config.{byteAt, fixedAt, merge, newByte, touches, configWrite, readByte, configRead};
+ghost use Rattle.gmch.specs.Config.{byteAt, touches, configWrite, readByte, configRead};
+ghost use Rattle.config.specs.Word.{writtenIn, mergeWord, touchedBits, newWord};
 
 // What a write leaves in SMRAM: bit 0 is cleared by writing 1, and the lock holds the others.
 fn smram_written(old: u8, v: u8) -> u8
@@ -36,36 +39,55 @@ fn byte_at<'a>(dev0: &'a [u8; 256], dev1: &'a [u8; 256], x: u32) -> u8
     dev1[(x - 256) as usize]
 }
 
-// Whether x is in a write-once register that has been written.
-fn is_fixed(s: State, x: u32) -> bool
-    ensures { λ r. ⌜ r ≡ fixedAt s x ⌝ }
-{
-    ((x / 2 == 0x96) & s.wrote2c) | ((x / 2 == 0x97) & s.wrote2e)
-}
+// ---- writes
 
-// A byte by the masks of its row: the writable bits take v's, and the clearing bits that v has are cleared.
-fn merged(old: u8, v: u8, writable: u8, clearing: u8) -> u8
-    ensures { λ r. ⌜ r ≡ merge old v writable clearing ⌝ }
+// A word by the bits of its rows: the writable bits take v's, and the clearing bits that v has are cleared.
+fn merged(old: u32, v: u32, writable: u32, clearing: u32) -> u32
+    ensures { λ r. ⌜ r ≡ mergeWord old v writable clearing ⌝ }
 {
     (old & !writable | v & writable) & !(v & clearing)
 }
 
-// What a write of v leaves in the byte x, which was old.
-fn new_byte(s: State, x: u32, old: u8, v: u8) -> u8
-    ensures { λ r. ⌜ r ≡ newByte s x old v ⌝ }
+// All bits of the n bytes from byte k on.
+fn touched_bits(k: u32, n: u32) -> u32
+    requires { ⌜ (k < 4) × (k + n ≤ 4) ⌝ }
+    ensures { λ r. ⌜ r ≡ touchedBits k n ⌝ }
 {
-    if x == 0x70 {
-        return smram_written(old, v);
+    let ones = ((1u64 << (8 * n)) - 1) as u32;
+    ones << (8 * k)
+}
+
+// What a write of the n low bytes of v at x leaves in the aligned word of x, which was old.
+fn new_word(b: Bits, x: u32, n: u32, old: u32, v: u32) -> u32
+    requires { ⌜ x % 4 + n ≤ 4 ⌝ }
+    ensures { λ r. ⌜ r ≡ newWord b x n old v ⌝ }
+{
+    let k = x % 4;
+    let t = touched_bits(k, n);
+    let new = merged(old, v << (8 * k), b.writable & t, b.clearing & t);
+    if (x == 0x70) & (0 < n) {
+        let smram = smram_written((old % 256) as u8, (v % 256) as u8);
+        return new / 256 * 256 + smram as u32;
     }
-    let m = crate::rows::masks_of(x);
-    if is_fixed(s, x) {
-        return merged(old, v, 0, m.clearing as u8);
-    }
-    merged(old, v, m.writable as u8, m.clearing as u8)
+    new
+}
+
+// Writes the n low bytes of v at x, in the bytes of x's device. b is what a write may change of the aligned word of x.
+pub fn write(dev: &mut [u8; 256], b: Bits, x: u32, n: u32, v: u32)
+    requires { ⌜ x % 4 + n ≤ 4 ⌝ }
+    ensures { λ _. ⌜ now (dev .exit) ≡ writtenIn b x (x % 256) n v (now (dev .entry)) ⌝ }
+{
+    let at = (x % 256 / 4 * 4) as usize;
+    let b0 = words::wide(dev[at]);
+    let b1 = words::wide(dev[at + 1]);
+    let b2 = words::wide(dev[at + 2]);
+    let b3 = words::wide(dev[at + 3]);
+    let old = b0 + b1 * 256 + b2 * 65536 + b3 * 16777216;
+    words::store4(dev, at, new_word(b, x, n, old, v));
 }
 
 // Whether n bytes at x touch one of the two bytes at k.
-fn is_touched(k: u32, x: u32, n: u32) -> bool
+pub fn is_touched(k: u32, x: u32, n: u32) -> bool
     requires { ⌜ (k < 512) × (x + n ≤ 512) ⌝ }
     ensures { λ r. ⌜ r ≡ touches k x n ⌝ }
 {
@@ -75,27 +97,20 @@ fn is_touched(k: u32, x: u32, n: u32) -> bool
     false
 }
 
-// A write of the n low bytes of v to configuration registers.
+// A write of the n low bytes of v to configuration registers. The bytes are in one aligned word.
 pub fn config_write(s: State, x: u32, n: u32, v: u32) -> State
-    requires { ⌜ x + n ≤ 512 ⌝ }
+    requires { ⌜ (x < 512) × (x % 4 + n ≤ 4) ⌝ }
     ensures { λ r. ⌜ r ≡ configWrite s x n v ⌝ }
 {
-    let mut t = s;
-    let mut rest = v;
-    let mut i: u32 = 0;
-    while i < n {
-        let at = x + i;
-        let b = new_byte(t, at, byte_at(&t.dev0, &t.dev1, at), (rest % 256) as u8);
-        if at < 256 {
-            t.dev0[at as usize] = b;
-        } else {
-            t.dev1[(at - 256) as usize] = b;
-        }
-        rest = rest / 256;
-        i = i + 1;
-    }
+    let b = rows::bits_of(x / 4, s.wrote2c, s.wrote2e);
     let c = is_touched(0x12C, x, n);
     let e = is_touched(0x12E, x, n);
+    let mut t = s;
+    if x < 256 {
+        write(&mut t.dev0, b, x, n, v);
+    } else {
+        write(&mut t.dev1, b, x, n, v);
+    }
     t.wrote2c = t.wrote2c | c;
     t.wrote2e = t.wrote2e | e;
     t

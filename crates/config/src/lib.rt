@@ -5,11 +5,18 @@ use gmch::Target;
 ghost use mathlib.Core.Path.{_≡_};
 ghost use mathlib.Core.Logic.{_⊎_};
 ghost use Prim.Native.Nat.{ℕ, _+_, _%_, _<_, _≤_};
+ghost use lib.Bits.{bitAnd};
 ghost use Rattle.gmch.specs.Config.{present, ours, portTarget, registerValue, registerWritten};
 ghost use Rattle.gmch.specs.Replay.{coldStart};
 
-mod access;
-mod rows;
+pub mod access;
+pub mod rows;
+
+// What a write may change of an aligned word of four bytes: the bits that it stores, and those that a written 1 clears.
+pub struct Bits {
+    pub writable: u32,
+    pub clearing: u32,
+}
 
 // The state at a cold start.
 pub fn cold_start(board: u32) -> State
@@ -94,6 +101,13 @@ pub fn register_value(s: State, x: u32, width: u32) -> u32
     access::config_read(s, x, width)
 }
 
+// What CF8h keeps of the data written.
+pub fn selected(v: u32) -> u32
+    ensures { λ r. ⌜ r ≡ bitAnd v 0x80FFFFFC ⌝ }
+{
+    v & 0x80FFFFFC
+}
+
 // The state after a write of `width` bytes of v at x, under the same terms.
 pub fn register_written(s: State, x: u32, width: u32, v: u32) -> State
     requires { ⌜ ((x ≡ 0xCF8) ⊎ (x < 512)) × (x % 4 + width ≤ 4) ⌝ }
@@ -101,7 +115,7 @@ pub fn register_written(s: State, x: u32, width: u32, v: u32) -> State
 {
     if x == 0xCF8 {
         let mut t = s;
-        t.cf8 = v & 0x80FFFFFC;
+        t.cf8 = selected(v);
         return t;
     }
     access::config_write(s, x, width, v)

@@ -1,10 +1,11 @@
-// The register rows of document 01, and what they say of a byte.
-use gmch::Masks;
+// The register rows of document 01: the bytes at a cold start, and what a write may change.
+use crate::Bits;
 use gmch::Row;
 ghost use mathlib.Core.Path.{_≡_};
-ghost use Prim.Native.Nat.{ℕ, _*_, _<_};
-ghost use Rattle.gmch.specs.Choice.{within};
-ghost use Rattle.gmch.specs.Rows.{rows, rowIn, byteOf, masksOf, defaultsFrom, idByte, coldBytes};
+ghost use Prim.Native.Nat.{ℕ, _+_, _*_, _<_, _≤_};
+ghost use Rattle.gmch.specs.Words.{storeLe};
+ghost use Rattle.gmch.specs.Rows.{byteOf, defaultsFrom, idByte, coldBytes};
+ghost use Rattle.config.specs.Word.{share, writableBits, clearingBits, fixedBits, bitsOf};
 
 const ROWS: [Row; 24] = [
     // device 0
@@ -187,38 +188,6 @@ const ROWS: [Row; 24] = [
     },
 ];
 
-// Whether the register of a row has the byte x.
-fn covers(r: Row, x: u32) -> bool
-    ensures { λ b. ⌜ b ≡ within (r .at) (r .width) x ⌝ }
-{
-    if r.at <= x {
-        return x - r.at < r.width;
-    }
-    false
-}
-
-// The row whose register has the byte x, and a row of zeros for an unlisted one.
-fn row_of(x: u32) -> Row
-    ensures { λ r. ⌜ r ≡ rowIn rows x ⌝ }
-{
-    let table = ROWS;
-    let mut i: usize = 0;
-    while i < 24 {
-        let r = table[i];
-        if covers(r, x) {
-            return r;
-        }
-        i = i + 1;
-    }
-    Row {
-        at: x,
-        width: 1,
-        default: 0,
-        writable: 0,
-        clearing: 0,
-    }
-}
-
 // Byte k of a number, from the lowest. No register is wider than four bytes.
 fn byte_of(n: u32, k: u32) -> u32
     requires { ⌜ k < 4 ⌝ }
@@ -227,29 +196,32 @@ fn byte_of(n: u32, k: u32) -> u32
     (n >> (8 * k)) % 256
 }
 
-// What the rows say of the byte x.
-pub fn masks_of(x: u32) -> Masks
-    ensures { λ r. ⌜ r ≡ masksOf x ⌝ }
+// Stores the `width` low bytes of n from `at` on.
+fn put_bytes(a: &mut [u8; 256], at: u32, width: u32, n: u32)
+    requires { ⌜ (at + width ≤ 256) × (width ≤ 4) ⌝ }
+    ensures { λ _. ⌜ now (a .exit) ≡ storeLe width at n (now (a .entry)) ⌝ }
 {
-    let r = row_of(x);
-    let k = x - r.at;
-    Masks {
-        default: byte_of(r.default, k),
-        writable: byte_of(r.writable, k),
-        clearing: byte_of(r.clearing, k),
+    let mut k: u32 = 0;
+    while k < width {
+        let i = (at + k) as usize;
+        a[i] = byte_of(n, k) as u8;
+        k = k + 1;
     }
 }
 
-// The defaults of a device's 256 bytes.
+// The defaults of a device's 256 bytes, row by row.
 fn default_bytes(device: u32) -> [u8; 256]
     requires { ⌜ device < 2 ⌝ }
     ensures { λ r. ⌜ r ≡ defaultsFrom (device * 256) 256 ⌝ }
 {
+    let table = ROWS;
     let mut a = [0u8; 256];
-    let mut i: u32 = 0;
-    while i < 256 {
-        let m = masks_of(device * 256 + i);
-        a[i as usize] = m.default as u8;
+    let mut i: usize = 0;
+    while i < 24 {
+        let r = table[i];
+        if r.at / 256 == device {
+            put_bytes(&mut a, r.at % 256, r.width, r.default);
+        }
         i = i + 1;
     }
     a
@@ -274,4 +246,75 @@ pub fn cold_bytes(board: u32, device: u32) -> [u8; 256]
     let mut a = default_bytes(device);
     a[2] = id_byte(board, device);
     a
+}
+
+// ---- what a write may change
+
+// What a number n of the register at `at` has of the aligned word w.
+fn share(n: u32, at: u32, w: u32) -> u32
+    ensures { λ r. ⌜ r ≡ share n at w ⌝ }
+{
+    if at / 4 == w {
+        return n << (8 * (at % 4));
+    }
+    0
+}
+
+// The bits of the aligned word w that a write stores. The loop is unrolled, and the rows are then constants.
+fn writable_bits(w: u32) -> u32
+    ensures { λ r. ⌜ r ≡ writableBits w ⌝ }
+{
+    let table = ROWS;
+    let mut p: u32 = 0;
+    let mut i: usize = 0;
+    while i < 24 {
+        let r = table[i];
+        p = p | share(r.writable, r.at, w);
+        i = i + 1;
+    }
+    p
+}
+
+// The bits of the aligned word w that a written 1 clears.
+fn clearing_bits(w: u32) -> u32
+    ensures { λ r. ⌜ r ≡ clearingBits w ⌝ }
+{
+    let table = ROWS;
+    let mut p: u32 = 0;
+    let mut i: usize = 0;
+    while i < 24 {
+        let r = table[i];
+        p = p | share(r.clearing, r.at, w);
+        i = i + 1;
+    }
+    p
+}
+
+// The bits of the write-once registers 2Ch and 2Eh of device 1 that have been written.
+fn fixed_bits(w: u32, wrote2c: bool, wrote2e: bool) -> u32
+    ensures { λ r. ⌜ r ≡ fixedBits wrote2c wrote2e w ⌝ }
+{
+    if w != 0x4B {
+        return 0;
+    }
+    if wrote2c {
+        if wrote2e {
+            return 0xFFFFFFFF;
+        }
+        return 0xFFFF;
+    }
+    if wrote2e {
+        return 0xFFFF0000;
+    }
+    0
+}
+
+// What a write may change now of the aligned word w.
+pub fn bits_of(w: u32, wrote2c: bool, wrote2e: bool) -> Bits
+    ensures { λ r. ⌜ r ≡ bitsOf wrote2c wrote2e w ⌝ }
+{
+    Bits {
+        writable: writable_bits(w) & !fixed_bits(w, wrote2c, wrote2e),
+        clearing: clearing_bits(w),
+    }
 }

@@ -217,7 +217,8 @@ impl Bench {
     fn measure(&mut self, load: &Load, caches: Caches) -> (Duration, Duration) {
         let pristine = (load.memory)(&mut Random(1));
         let records = record::encode(&load.records);
-        let (mut memory, mut other) = (pristine.clone(), pristine);
+        // Both are copies: fresh zeros are all one page until they are written, and reading them cools no cache.
+        let (mut memory, mut other) = (pristine.clone(), pristine.clone());
         let mut answers = vec![0; records.len()];
         let mut other_answers = answers.clone();
         let mut best = (Duration::MAX, Duration::MAX);

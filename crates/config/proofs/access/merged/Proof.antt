@@ -1,5 +1,5 @@
 use mathlib.Core.Path.{refl}
-use Rattle.gmch.specs.Config.{merge}
+use Rattle.config.specs.Word.{mergeWord}
 use Rattle.config.proofs.access.merged.Statement.{statement}
 use Rattle.config.proofs.access.merged.Tie as tie
 
@@ -7,4 +7,4 @@ pub merged-spec : {M : Type 1} → statement M
 merged-spec =
     tie.close
     (tie.spec
-    (λ c. unfold merge in refl))
+    (λ c. unfold mergeWord in refl))

@@ -1,5 +1,5 @@
 use borrow.Author.Needs.{needs}
-use Rattle.config.proofs.Scan.{bits-of-bytes}
+use Rattle.config.proofs.Bytes.{bits-of-bytes}
 use Rattle.config.proofs.rows.byte_of.Statement.{statement}
 use Rattle.config.proofs.rows.byte_of.Tie as tie
 

@@ -1,37 +1,49 @@
--- The first i bytes are defaults.
-use Prim.Native.Nat.{ℕ, _+_, _-_, _*_, _≤_}
-use mathlib.Core.Path.{_≡_, refl}
-use mathlib.Core.List.{_++_}
+-- The rows that are left, filled in, give what all of them give.
+use Prim.Native.Nat.{_-_, _≤_}
+use mathlib.Core.Path.{_≡_, refl, sym, _∙_}
+use mathlib.Core.Logic.{⊎-elim}
 use native.Mathlib.Omega.{arith}
-use lib.ListN.{drop, replicate, length-replicate}
-use Rattle.gmch.specs.Rows.{defaultsFrom}
-use Rattle.config.proofs.Scan.{masks-bytes}
-use Rattle.config.proofs.Filled.{fill-more, fill-all}
+use lib.ListN.{drop, replicate, getD}
+use Rattle.gmch.specs.Rows.{rows}
+use borrow.Author.Tests.{eq-eqb, ne-eqb}
+use Rattle.gmch.proofs.Choice.{pick-true, pick-false}
+use Rattle.config.specs.Fill.{filled, filledBy}
+use Rattle.config.proofs.Fill.{zeroRow, fill-more, fill-all, filled-defaults, row-narrow}
 use Rattle.config.proofs.rows.default_bytes.Statement.{statement}
 use Rattle.config.proofs.rows.default_bytes.Tie as tie
 
 abbrev Inv-loop : tie.InvT-loop
-Inv-loop device a₀ i₀ a i = (i ≤ 256) × (a ≡ defaultsFrom (device * 256) i ++ drop i (replicate 256 0))
+Inv-loop device table a₀ i₀ a i = (i ≤ 24) × (filled device (drop i rows) a ≡ filled device rows (replicate 256 0))
 
 abbrev μ-loop : tie.MeasureT-loop
-μ-loop device a₀ i₀ a i = 256 - i
+μ-loop device table a₀ i₀ a i = 24 - i
 
-loop-holds : tie.Need-loop-holds Inv-loop μ-loop
-unfolding defaultsFrom
-loop-holds c = (omega arith, refl)
+put-bytes-requires : tie.Need-put-bytes-requires Inv-loop μ-loop
+unfolding rows
+put-bytes-requires c κs =
+    let n = row-narrow (c .before .before .before .before .before .before .loop .i) in
+    (n .inside, n .width)
 
 loop-again : tie.Need-loop-again Inv-loop μ-loop
+unfolding rows
 loop-again c =
-    let b = c .before .before .before in (
-      omega arith,
-      rw (b .loop .inv .1, c .before .masks-of .ensures)
-          (fill-more (replicate 256 0) (b .before .args .device * 256) (b .loop .i) (omega (arith, length-replicate {A = ℕ} 256 0))),
-    )
+    let b = c .before .before .before .before in
+    let d = b .before .args .device in
+    let r = getD rows (b .loop .i) zeroRow in
+    let e : c .if1 .a ≡ filledBy d r (b .loop .a) =
+    ⊎-elim
+    (λ w. w .4 ∙ w .3 .ensures ∙ sym (pick-true _ _ (eq-eqb _ _ (w .0 .taken))))
+    (λ w. w .1 ∙ sym (pick-false _ _ (ne-eqb _ _ (w .0 .left))))
+    (c .if1 .came)
+    in
+    (omega arith, rw e (sym (fill-more d rows (b .loop .a) (b .loop .i) (omega arith)) ∙ b .loop .inv .1))
 
 returns : tie.Need-returns Inv-loop μ-loop
 returns c =
-    let e : c .before .loop .i ≡ 256 = omega arith in
-    rw (c .before .loop .inv .1, e) (fill-all (replicate 256 0) (c .before .before .args .device * 256) 256 (omega (arith, length-replicate {A = ℕ} 256 0)))
+    let l = c .before .loop in
+    sym (fill-all (c .before .before .args .device) rows (l .a) (l .i) (unfold rows in omega arith))
+    ∙ l .inv .1
+    ∙ filled-defaults (c .before .before .args .device) (c .before .before .pre)
 
 pub default-bytes-spec : {M : Type 1} → statement M
 default-bytes-spec =
@@ -39,13 +51,10 @@ default-bytes-spec =
     (tie.spec
     Inv-loop
     μ-loop
-    loop-holds
+    (λ c. (omega arith, refl))
     (λ c. omega arith)
     (λ c. omega arith)
-    (λ c κs. tt)
-    (λ c. omega (arith, masks-bytes _ _ (c .before .masks-of .ensures) .default))
-    (λ c. omega arith)
-    (λ c. omega arith)
+    put-bytes-requires
     (λ c. omega arith)
     (λ c. omega arith)
     loop-again

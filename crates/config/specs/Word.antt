@@ -1,0 +1,65 @@
+-- A write by the bits of an aligned word of four bytes, as code makes it.
+use Prim.Native.Nat.{ℕ, zero, suc, _+_, _-_, _*_, _/_, _%_, _^_}
+use mathlib.Core.List.{List, [], _∷_}
+use mathlib.Core.Bool.{Bool}
+use lib.ListN.{getD, set}
+use lib.Dec.{eqb, ltb}
+use lib.Bits.{bitAnd, bitOr}
+use Rattle.gmch.specs.Choice.{pick, _and_}
+use Rattle.gmch.specs.Smram.{smramWritten}
+use Rattle.gmch.specs.Rows.{rows, byteOf}
+use Rattle.gmch.specs.Config.{merge}
+use Rattle.gmch.specs.declared.Row.{Row}
+use Rattle.config.specs.declared.Bits.{Bits}
+
+-- what a number n of the register at `at` has of the aligned word w
+unfoldable pub share : ℕ → ℕ → ℕ → ℕ
+share n at w = pick (eqb (at / 4) w) (n * 2 ^ (8 * (at % 4)) % 2 ^ 32) 0
+
+-- the number f of each row in the word w, beside p
+unfoldable pub gathered : (Row → ℕ) → ℕ → List Row → ℕ → ℕ
+gathered f p [] w = p
+gathered f p (r ∷ rs) w = gathered f (bitOr p (share (f r) (r .at) w)) rs w
+
+unfoldable pub writableBits : ℕ → ℕ
+writableBits w = gathered (λ (r : Row). r .writable) 0 rows w
+
+unfoldable pub clearingBits : ℕ → ℕ
+clearingBits w = gathered (λ (r : Row). r .clearing) 0 rows w
+
+-- the bits of the write-once registers 2Ch and 2Eh of device 1 that have been written
+unfoldable pub fixedBits : Bool → Bool → ℕ → ℕ
+fixedBits c e w = pick (eqb w 0x4B) (pick c (pick e 0xFFFFFFFF 0xFFFF) (pick e 0xFFFF0000 0)) 0
+
+-- what a write may change now of the aligned word w
+unfoldable pub bitsOf : Bool → Bool → ℕ → Bits
+bitsOf c e w = record { writable = bitAnd (writableBits w) (2 ^ 32 - 1 - fixedBits c e w); clearing = clearingBits w }
+
+-- ---- a byte, and the bytes of a device
+
+-- what a write of v leaves in the byte x, which was old
+unfoldable pub newIn : Bits → ℕ → ℕ → ℕ → ℕ
+newIn b x old v =
+    pick (eqb x 0x70) (smramWritten old v) (merge old v (byteOf (b .writable) (x % 4)) (byteOf (b .clearing) (x % 4)))
+
+-- the bytes of a device after a write of the n low bytes of v at x, which is its byte i, the lowest first
+unfoldable pub writtenIn : Bits → ℕ → ℕ → ℕ → ℕ → List ℕ → List ℕ
+writtenIn b x i zero v l = l
+writtenIn b x i (suc n) v l = writtenIn b (x + 1) (i + 1) n (v / 256) (set l i (newIn b x (getD l i 0) (v % 256)))
+
+-- ---- the same on the whole word
+
+unfoldable pub mergeWord : ℕ → ℕ → ℕ → ℕ → ℕ
+mergeWord old v writable clearing =
+    bitAnd (bitOr (bitAnd old (2 ^ 32 - 1 - writable)) (bitAnd v writable)) (2 ^ 32 - 1 - bitAnd v clearing)
+
+-- all bits of the n bytes from byte k on
+unfoldable pub touchedBits : ℕ → ℕ → ℕ
+touchedBits k n = (2 ^ (8 * n) - 1) * 2 ^ (8 * k) % 2 ^ 32
+
+-- what a write of the n low bytes of v at x leaves in its aligned word, which was old. SMRAM is the lowest byte of its word
+unfoldable pub newWord : Bits → ℕ → ℕ → ℕ → ℕ → ℕ
+newWord b x n old v =
+    let t = touchedBits (x % 4) n in
+    let new = mergeWord old (v * 2 ^ (8 * (x % 4)) % 2 ^ 32) (bitAnd (b .writable) t) (bitAnd (b .clearing) t) in
+    pick (eqb x 0x70 and ltb 0 n) (new / 256 * 256 + smramWritten (old % 256) (v % 256)) new
