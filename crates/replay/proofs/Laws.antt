@@ -1,17 +1,17 @@
 -- A decision, with its effect carried out, is the definitions' access, target by target, and their record, kind by kind.
 use Prim.Native.Nat.{ℕ, _≤_, _<_}
 use mathlib.Core.Path.{_≡_, refl, sym}
-use mathlib.Core.Logic.{_≢_}
+use mathlib.Core.Logic.{_⊎_, inl, inr, _≢_}
 use mathlib.Core.List.{List}
 use mathlib.Core.Bool.{Bool, true, false, not}
 use native.Mathlib.Omega.{arith}
 use lib.ListN.{length}
 use lib.Dec.{eqb}
-use borrow.Author.Tests.{eq-eqb, ne-eqb, le-ltb}
+use borrow.Author.Tests.{eq-eqb, ne-eqb, eqb-false, le-ltb}
 use Rattle.gmch.specs.Choice.{pick, within}
 use Rattle.gmch.specs.Words.{loadLe, storeLe}
 use Rattle.gmch.specs.Records.{accessOf, wellFormed, reply, resetReply}
-use Rattle.gmch.specs.Config.{withRegs}
+use Rattle.gmch.specs.Config.{withRegs, Placed, registerWritten}
 use Rattle.gmch.specs.Machine.{Machine, machine, lent}
 use Rattle.gmch.specs.Map.{Sized, mapFrom, mapOf}
 use Rattle.gmch.specs.Table.{fetch, lookIn, lookOf}
@@ -26,11 +26,12 @@ use Rattle.gmch.specs.declared.Ran.{Ran}
 use Rattle.gmch.specs.declared.Record.{Record}
 use Rattle.gmch.specs.declared.Access.{Access}
 use Rattle.gmch.specs.declared.Answer.{Answer}
-use Rattle.gmch.specs.declared.Target.the-variants.{Refused, Memory, Mapped}
+use Rattle.gmch.specs.declared.Target.the-variants.{Refused, Memory, Register, Mapped}
 use Rattle.gmch.proofs.Choice.{choices, pick-elim, within-from}
 use Rattle.gmch.proofs.Steps.{run-memories}
-use Rattle.replay.specs.Decide.{Sound, applied, storeEffect}
-use Rattle.replay.specs.declared.Effect.the-variants.{Keep, Store}
+use Rattle.replay.specs.Decide.{Sound, changed, applied, storeEffect, registerEffect}
+use Rattle.replay.specs.declared.Effect.the-variants.{Keep, Rarely}
+use Rattle.replay.specs.declared.Rare.the-variants.{Store}
 
 abbrev out : State → List ℕ → List ℕ → Answer → Out
 out s table main a = record { after = machine s table main; answer = a }
@@ -72,7 +73,7 @@ module _ (s : State) (table main : List ℕ) (a : Access) (v : ℕ) where
   pub mapped-done : (o y : ℕ) (table′ : List ℕ) → y ≡ pick (a .write) 0 (mappedValue (s .fences) (s .regs) table o)
       → table′ ≡ pick (a .write) (tableWritten table o v) table
       → out (applied s (storeEffect (a .write) o v)) table′ main (reply (Mapped o) y) ≡ act x a v (Mapped o)
-  unfolding act applied storeEffect
+  unfolding act applied changed storeEffect
   mapped-done o y table′ e f = by (a .write) (isEntry o) refl refl
     where
       by : (w k : Bool) → a .write ≡ w → isEntry o ≡ k
@@ -80,6 +81,26 @@ module _ (s : State) (table main : List ℕ) (a : Access) (v : ℕ) where
       by false k h i = rw (e, f, h) (simp choices)
       by true true h i = rw (e, f, h) (simp (i, entry-keeps s o v i, choices))
       by true false h i = rw (e, f, h) (simp (i, choices))
+
+-- a write of CF8h or of configuration registers
+module _ (s : State) (table main : List ℕ) (a : Access) (v n : ℕ) where
+  pub register-done : a .write ≡ true
+      → out (applied s (registerEffect n (a .width) v)) table main (reply (Register n) 0) ≡ act (machine s table main) a v (Register n)
+  unfolding act applied registerEffect registerWritten
+  register-done w = by (eqb n 0xCF8) refl
+    where
+      by : (k : Bool) → eqb n 0xCF8 ≡ k
+          → out (applied s (registerEffect n (a .width) v)) table main (reply (Register n) 0) ≡ act (machine s table main) a v (Register n)
+      by true e = rw w (simp (e, choices))
+      by false e = rw w (simp (e, choices))
+
+pub register-sound : (n width v : ℕ) → Placed n width → Sound (registerEffect n width v)
+unfolding registerEffect
+register-sound n width v p = pick-elim Sound (eqb n 0xCF8) (λ _. tt) (λ e. (below (eqb-false n 0xCF8 e) (p .0), p .1))
+  where
+    below : (n ≡ 0xCF8 → ⊥) → (n ≡ 0xCF8) ⊎ (n < 512) → n < 512
+    below k (inl h) = absurd (k h)
+    below k (inr h) = h
 
 pub effect-sound : (write : Bool) (o v : ℕ) → Sound (storeEffect write o v)
 unfolding storeEffect

@@ -1,13 +1,14 @@
 -- The replay over flat bytes is that of the definitions.
-use Prim.Native.Nat.{ℕ, zero, suc, _+_, _-_, _*_, _/_, _≤_, _<_}
-use mathlib.Core.Path.{_≡_, refl, sym, ap, _∙_}
+use Prim.Native.Nat.{ℕ, zero, suc, _+_, _-_, _*_, _/_, _%_, _≤_, _<_}
+use mathlib.Core.Path.{_≡_, refl, sym, ap, subst, _∙_}
+use mathlib.Core.Bool.{Bool, _||_}
 use mathlib.Core.List.{List, _++_, append-assoc, append-nil}
 use native.Mathlib.Omega.{arith}
 use lib.ListN.{length, take, drop, length-append}
 use lib.Seq.{sets, sets-eq, length-sets, drop-drop, length-take-le, take-at, take-all}
 use Rattle.gmch.specs.Records.{answerBytes}
 use Rattle.gmch.specs.Mapped.{lineOf}
-use Rattle.gmch.specs.Config.{withRegs}
+use Rattle.gmch.specs.Config.{withCf8, withDev0, withDev1, withOnce, withRegs, touches}
 use Rattle.gmch.specs.Machine.{Machine, machine}
 use Rattle.gmch.specs.Access.{Out}
 use Rattle.gmch.specs.Replay.{oneRecord, answered, replay}
@@ -16,11 +17,15 @@ use Rattle.gmch.specs.declared.Board.{Board}
 use Rattle.gmch.specs.declared.State.{State}
 use Rattle.gmch.specs.declared.Regs.{Regs}
 use Rattle.gmch.specs.declared.Record.{Record}
-use Rattle.replay.specs.Decide.{applied, carried}
+use Rattle.config.specs.Word.{bitsOf, writtenIn}
+use Rattle.config.specs.declared.Bits.{Bits}
+use Rattle.config.proofs.Stored.{stored-0, stored-1}
+use Rattle.replay.specs.Decide.{Sound, changed, applied, carried}
 use Rattle.replay.specs.Flat.{Flat, recordAt, replayFrom, Replays}
 use Rattle.replay.specs.declared.Decided.{Decided}
 use Rattle.replay.specs.declared.Effect.{Effect}
-use Rattle.replay.specs.declared.Effect.the-variants.{Keep, Ring}
+use Rattle.replay.specs.declared.Effect.the-variants.{Keep, Ring, Select, Configure, Rarely}
+use Rattle.replay.specs.declared.Rare.{Rare}
 use Rattle.records.proofs.Bytes.{length-answer}
 
 length-answered : (o : Out) → length (answered o) ≡ 16
@@ -88,6 +93,29 @@ module _ (b : Board) (records : List ℕ) where
 pub keep-is : (s : State) (e : Effect) → e ≡ Keep → s ≡ applied s e
 unfolding applied
 keep-is s e h = rw h
+
+pub select-is : (s : State) (e : Effect) (v : ℕ) → e ≡ Select v → withCf8 s v ≡ applied s e
+unfolding applied
+select-is s e v h = rw h
+
+pub rare-is : (s : State) (e : Effect) (x : Rare) → e ≡ Rarely x → changed s x ≡ applied s e
+unfolding applied
+rare-is s e x h = rw h
+
+-- a configuration write: the bytes of the device that it names, then the flags
+module _ (s : State) (e : Effect) (n width v : ℕ) (h : e ≡ Configure n width v) (sound : Sound e) (bits : Bits)
+    (p : bits ≡ bitsOf (s .wrote2c) (s .wrote2e) (n / 4)) (l : List ℕ) (c d : Bool) (q : c ≡ touches 0x12C n width) (r : d ≡ touches 0x12E n width) where
+  pub configure-0 : n < 256 → l ≡ writtenIn bits n (n % 256) width v (s .dev0) → withOnce (withDev0 s l) (s .wrote2c || c) (s .wrote2e || d) ≡ applied s e
+  unfolding applied
+  configure-0 k m =
+      let u : Sound (Configure n width v) = subst (λ (x : Effect). Sound x) h sound in
+      rw h (stored-0 s n width v (u .1) bits p l c d q r k m)
+
+  pub configure-1 : 256 ≤ n → l ≡ writtenIn bits n (n % 256) width v (s .dev1) → withOnce (withDev1 s l) (s .wrote2c || c) (s .wrote2e || d) ≡ applied s e
+  unfolding applied
+  configure-1 k m =
+      let u : Sound (Configure n width v) = subst (λ (x : Effect). Sound x) h sound in
+      rw h (stored-1 s n width v (u .1) bits p l c d q r k (u .0) m)
 
 pub ring-is : (s : State) (e : Effect) (q : Regs) → e ≡ Ring q → withRegs s q ≡ applied s e
 unfolding applied

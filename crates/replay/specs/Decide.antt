@@ -1,10 +1,12 @@
 -- One record as the code takes it: decided with the state only read, table and memory changed on the spot, and what is
 -- left to do to the state given as an effect.
-use Prim.Native.Nat.{ℕ, _+_, _≤_, _<_}
+use Prim.Native.Nat.{ℕ, _+_, _%_, _≤_, _<_}
 use mathlib.Core.List.{List}
 use mathlib.Core.Bool.{Bool}
+use lib.Bits.{bitAnd}
+use lib.Dec.{eqb}
 use Rattle.gmch.specs.Choice.{pick}
-use Rattle.gmch.specs.Config.{withRegs, withError, Placed, registerWritten}
+use Rattle.gmch.specs.Config.{withCf8, withRegs, withError, Placed, configWrite}
 use Rattle.gmch.specs.Machine.{machine}
 use Rattle.gmch.specs.Mapped.{isEntry, mappedWritten}
 use Rattle.gmch.specs.Access.{Out}
@@ -16,21 +18,31 @@ use Rattle.gmch.specs.declared.Target.the-variants.{Refused, Memory, Register, 
 use Rattle.gmch.specs.declared.Route.{Route}
 use Rattle.gmch.specs.declared.Route.the-variants.{To, Registers, Window}
 use Rattle.replay.specs.declared.Effect.{Effect}
-use Rattle.replay.specs.declared.Effect.the-variants.{Keep, Ring, Configure, Store, Error, Reset}
+use Rattle.replay.specs.declared.Effect.the-variants.{Keep, Ring, Select, Configure, Rarely}
+use Rattle.replay.specs.declared.Rare.{Rare}
+use Rattle.replay.specs.declared.Rare.the-variants.{Store, Error, Reset}
 use Rattle.replay.specs.declared.Decided.{Decided}
 
 -- the state after an effect
+unfoldable pub changed : State → Rare → State
+changed s (Store o v) = mappedWritten s o v
+changed s Error = withError s
+changed s (Reset kind) = coldStart kind
+
 unfoldable pub applied : State → Effect → State
 applied s Keep = s
 applied s (Ring r) = withRegs s r
-applied s (Configure n width v) = registerWritten s n width v
-applied s (Store o v) = mappedWritten s o v
-applied s Error = withError s
-applied s (Reset kind) = coldStart kind
+applied s (Select v) = withCf8 s v
+applied s (Configure n width v) = configWrite s n width v
+applied s (Rarely e) = changed s e
 
 -- what a memory-mapped register asks of the state; entries of the table are stored where they are decided
 unfoldable pub storeEffect : Bool → ℕ → ℕ → Effect
-storeEffect write o v = pick write (pick (isEntry o) Keep (Store o v)) Keep
+storeEffect write o v = pick write (pick (isEntry o) Keep (Rarely (Store o v))) Keep
+
+-- what a write of CF8h or of configuration registers asks of it
+unfoldable pub registerEffect : ℕ → ℕ → ℕ → Effect
+registerEffect n width v = pick (eqb n 0xCF8) (Select (bitAnd v 0x80FFFFFC)) (Configure n width v)
 
 -- a decision in the state s that left this table and this memory
 abbrev pub carried : State → List ℕ → List ℕ → Decided → Out
@@ -58,7 +70,6 @@ Reachable tom width (Mapped o) = Unit {0}
 abbrev pub Sound : Effect → Type 0
 Sound Keep = Unit {0}
 Sound (Ring r) = Unit {0}
-Sound (Configure n width v) = Placed n width
-Sound (Store o v) = Unit {0}
-Sound Error = Unit {0}
-Sound (Reset kind) = Unit {0}
+Sound (Select v) = Unit {0}
+Sound (Configure n width v) = (n < 512) × (n % 4 + width ≤ 4)
+Sound (Rarely e) = Unit {0}

@@ -1,6 +1,7 @@
 // One access: where it ends, and what it does there.
 use crate::Decided;
 use crate::Effect;
+use crate::Rare;
 use gmch::Access;
 use gmch::Board;
 use gmch::Map;
@@ -20,7 +21,7 @@ ghost use Rattle.gmch.specs.Map.{Sized, mapOf};
 ghost use Rattle.gmch.specs.Table.{lookIn};
 ghost use Rattle.gmch.specs.Mapped.{mappedValue, tableWritten};
 ghost use Rattle.gmch.specs.Access.{resolved, targetIn, act};
-ghost use Rattle.replay.specs.Decide.{Reachable, InWindow, Sound, storeEffect, carried};
+ghost use Rattle.replay.specs.Decide.{Reachable, InWindow, Sound, storeEffect, registerEffect, carried};
 ghost use Rattle.words.specs.Width.{Width};
 
 // What the map goes by, read off the state.
@@ -125,9 +126,19 @@ fn store_effect(write: bool, o: u32, v: u32) -> Effect
         if mapped::is_entry(o) {
             return Effect::Keep;
         }
-        return Effect::Store(o, v);
+        return Effect::Rarely(Rare::Store(o, v));
     }
     Effect::Keep
+}
+
+// What a write of CF8h or of configuration registers asks of the state.
+fn register_effect(n: u32, width: u32, v: u32) -> Effect
+    ensures { λ e. ⌜ e ≡ registerEffect n width v ⌝ }
+{
+    if n == 0xCF8 {
+        return Effect::Select(config::selected(v));
+    }
+    Effect::Configure(n, width, v)
 }
 
 // An access where it ends. `decide` shows that the bytes are there.
@@ -151,12 +162,13 @@ pub fn act(s: State, table: &mut [u32], memory: &mut [u8], a: Access, v: u32, t:
         }
         Target::Register(n) => {
             if write {
-                return done(t, 0, Effect::Configure(n, width, v));
+                let e = register_effect(n, width, v);
+                return done(t, 0, e);
             }
             let x = config::register_value(s, n, width);
             done(t, x, Effect::Keep)
         }
-        Target::HubError(_) => done(t, 0, Effect::Error),
+        Target::HubError(_) => done(t, 0, Effect::Rarely(Rare::Error)),
         Target::Refused(_) => done(t, 0, Effect::Keep),
         Target::Hub(_) => done(t, 0, Effect::Keep),
         Target::Vga(_) => done(t, 0, Effect::Keep),

@@ -15,18 +15,25 @@ ghost use Rattle.gmch.specs.Smram.{smramError};
 ghost use Rattle.gmch.specs.Machine.{machine};
 ghost use Rattle.gmch.specs.Map.{Tom, Sized, mapOf};
 ghost use Rattle.gmch.specs.Replay.{runReply, coldTable, oneRecord};
-ghost use Rattle.replay.specs.Decide.{Sound, applied, carried};
+ghost use Rattle.replay.specs.Decide.{Sound, changed, carried};
 ghost use Rattle.replay.specs.Flat.{Replays};
 
 mod access;
 
-// What a record asks of the state.
+// What a record asks of the state. The loop carries it out in place.
 pub enum Effect {
     Keep,
     // A parser run leaves these registers.
     Ring(Regs),
-    // A write of CF8h or of configuration registers: at device * 256 + register, width, value.
+    // CF8h is this.
+    Select(u32),
+    // A write of configuration registers: at device * 256 + register, width, value.
     Configure(u32, u32, u32),
+    Rarely(Rare),
+}
+
+// What comes so rarely that the state may be copied.
+pub enum Rare {
     // A write of a fence or of a memory-mapped register: offset, value.
     Store(u32, u32),
     // SMRAM's error bit is set.
@@ -50,27 +57,18 @@ fn with_error(smram: u8) -> u8
     smram / 2 * 2 + 1
 }
 
-// The state after an effect. `replay` carries out the first two itself, and shows that the bytes of a configuration write
-// are there.
-pub fn apply(s: State, e: Effect) -> State
-    requires { ⌜ Sound e ⌝ }
-    ensures { λ t. ⌜ t ≡ applied s e ⌝ }
+// The state after what comes rarely.
+pub fn apply(s: State, e: Rare) -> State
+    ensures { λ t. ⌜ t ≡ changed s e ⌝ }
 {
     match e {
-        Effect::Keep => s,
-        Effect::Ring(r) => {
-            let mut t = s;
-            t.regs = r;
-            t
-        }
-        Effect::Configure(n, width, v) => config::register_written(s, n, width, v),
-        Effect::Store(o, v) => mapped::written(s, o, v),
-        Effect::Error => {
+        Rare::Store(o, v) => mapped::written(s, o, v),
+        Rare::Error => {
             let mut t = s;
             t.dev0[0x70] = with_error(s.dev0[0x70]);
             t
         }
-        Effect::Reset(kind) => config::cold_start(kind),
+        Rare::Reset(kind) => config::cold_start(kind),
     }
 }
 
@@ -122,7 +120,7 @@ pub fn decide(b: Board, s: State, table: &mut [u32], memory: &mut [u8], r: Recor
         zero(table);
         return Decided {
             answer: records::reset_reply(),
-            effect: Effect::Reset(b.kind),
+            effect: Effect::Rarely(Rare::Reset(b.kind)),
         };
     }
     let a = records::access_of(r);
@@ -157,8 +155,23 @@ pub fn replay(
             Effect::Ring(q) => {
                 s.regs = q;
             }
-            _ => {
-                s = apply(s, e);
+            Effect::Select(v) => {
+                s.cf8 = v;
+            }
+            Effect::Configure(n, width, v) => {
+                let bits = config::rows::bits_of(n / 4, s.wrote2c, s.wrote2e);
+                let wrote2c = config::access::is_touched(0x12C, n, width);
+                let wrote2e = config::access::is_touched(0x12E, n, width);
+                if n < 256 {
+                    config::access::write(&mut s.dev0, bits, n, width, v);
+                } else {
+                    config::access::write(&mut s.dev1, bits, n, width, v);
+                }
+                s.wrote2c = s.wrote2c | wrote2c;
+                s.wrote2e = s.wrote2e | wrote2e;
+            }
+            Effect::Rarely(x) => {
+                s = apply(s, x);
             }
         }
         records::put_answer(answers, at, d.answer, mapped::line(s.regs));

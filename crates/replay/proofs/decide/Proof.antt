@@ -3,7 +3,7 @@ use mathlib.Core.Path.{_∙_, ap}
 use mathlib.Core.Bool.{not}
 use Rattle.gmch.specs.Map.{mapFrom}
 use Rattle.gmch.proofs.Choice.{flag}
-use Rattle.replay.specs.Decide.{applied}
+use Rattle.replay.specs.Decide.{changed, applied}
 use Rattle.replay.proofs.Laws.{malformed, a-run, a-reset, an-access, run-ready, run-done, reset-done}
 use Rattle.replay.proofs.Bounds.{target-reachable}
 use Rattle.replay.proofs.decide.Statement.{statement}
@@ -22,7 +22,7 @@ returns-2 c =
     rw (c .run-reply .ensures) (q ∙ a-run _ _ _ e (c .before .before .before .before .before .before .before .if2 .taken), tt)
 
 returns-3 : tie.Need-returns-3
-unfolding applied
+unfolding applied changed
 returns-3 c =
     let e = flag (ap not (c .before .before .before .before .before .before .before .before .before .before .well-formed .ensures)) (c .before .before .before .before .before .before .before .before .before .if1 .left) in
     rw (c .reset-reply .ensures, c .before .before .before .zero .ensures) (reset-done _ (c .before .before .before .before .before .before .before .before .before .before .before .before .before .args .s) (c .before .before .before .before .before .before .before .before .before .before .before .before .before .args .table .now) _ ∙ a-reset _ _ _ e (c .before .before .before .before .before .before .before .if2 .left) (c .before .before .before .before .before .if3 .taken), tt)

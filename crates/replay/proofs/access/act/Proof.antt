@@ -2,14 +2,15 @@ use borrow.Author.Needs.{needs}
 use mathlib.Core.Path.{refl, _∙_}
 use Rattle.gmch.specs.Choice.{pick}
 use Rattle.gmch.specs.Access.{act}
-use Rattle.replay.specs.Decide.{applied}
-use Rattle.replay.proofs.Laws.{memory-done, mapped-done, effect-sound}
+use Rattle.replay.specs.Decide.{changed, applied}
+use Rattle.replay.proofs.Laws.{memory-done, mapped-done, register-done, register-sound, effect-sound}
 use Rattle.replay.proofs.access.act.Statement.{statement}
 use Rattle.replay.proofs.access.act.Tie as tie
 
 returns : tie.Need-returns
-unfolding act applied pick
-returns c = rw (c .done3 .ensures, c .before .before .before .t3 .given .1, c .before .if1 .taken) (refl, rw (c .before .before .before .t3 .given .1) at (c .before .before .before .before .before .before .before .pre .1))
+returns c =
+    rw (c .done3 .ensures, c .before .register-effect .ensures, c .before .before .before .before .t3 .given .1)
+    (register-done _ _ _ _ _ _ (c .before .before .if1 .taken), register-sound _ _ _ (rw (c .before .before .before .before .t3 .given .1) at (c .before .before .before .before .before .before .before .before .pre .1)))
 
 returns-2 : tie.Need-returns-2
 unfolding applied
@@ -37,6 +38,7 @@ act-spec =
     (λ c κs. search needs)
     (λ c. search needs)
     (λ c κs. search needs)
+    (λ c κs. search needs)
     returns
     (λ c κs. rw (c .before .before .t3 .given .1) at (c .before .before .before .before .before .before .pre .1))
     (λ c κs. search needs)
@@ -53,7 +55,7 @@ act-spec =
     (λ c. search needs)
     returns-3
     returns-4
-    (λ c. unfold act applied in rw (c .done5 .ensures, c .before .enum-told .given .1) (refl, tt))
+    (λ c. unfold act applied changed in rw (c .done5 .ensures, c .before .enum-told .given .1) (refl, tt))
     (λ c. unfold act applied in rw (c .done6 .ensures, c .before .enum-told2 .given .1) (refl, tt))
     (λ c. unfold act applied in rw (c .done7 .ensures, c .before .enum-told3 .given .1) (refl, tt))
     (λ c. unfold act applied in rw (c .done8 .ensures, c .before .enum-told4 .given .1) (refl, tt)))
