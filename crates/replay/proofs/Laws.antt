@@ -1,6 +1,6 @@
 -- A decision, with its effect carried out, is the definitions' access, target by target, and their record, kind by kind.
 use Prim.Native.Nat.{ℕ, _≤_, _<_}
-use mathlib.Core.Path.{_≡_, refl, sym}
+use mathlib.Core.Path.{_≡_, refl}
 use mathlib.Core.Logic.{_⊎_, inl, inr, _≢_}
 use mathlib.Core.List.{List}
 use mathlib.Core.Bool.{Bool, true, false, not}
@@ -30,8 +30,6 @@ use Rattle.gmch.specs.declared.Target.the-variants.{Refused, Memory, Register, 
 use Rattle.gmch.proofs.Choice.{choices, pick-elim, within-from}
 use Rattle.gmch.proofs.Steps.{run-memories}
 use Rattle.replay.specs.Decide.{Sound, changed, applied, storeEffect, registerEffect}
-use Rattle.replay.specs.declared.Effect.the-variants.{Keep, Rarely}
-use Rattle.replay.specs.declared.Rare.the-variants.{Store}
 
 abbrev out : State → List ℕ → List ℕ → Answer → Out
 out s table main a = record { after = machine s table main; answer = a }

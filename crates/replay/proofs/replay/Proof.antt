@@ -8,7 +8,7 @@ use borrow.Author.Needs.{needs}
 use lib.ListN.{length}
 use Rattle.gmch.specs.Machine.{machine}
 use Rattle.gmch.proofs.Routing.{sized}
-use Rattle.replay.specs.Decide.{Sound, applied}
+use Rattle.replay.specs.Decide.{applied}
 use Rattle.replay.specs.Flat.{replayFrom}
 use Rattle.replay.proofs.Loop.{keep-is, ring-is, select-is, configure-0, configure-1, rare-is, turn, finished}
 use Rattle.replay.proofs.replay.Statement.{statement}

@@ -1,5 +1,5 @@
 use borrow.Author.Needs.{needs}
-use mathlib.Core.Path.{refl, _∙_}
+use mathlib.Core.Path.{refl}
 use Rattle.gmch.specs.Choice.{pick}
 use Rattle.gmch.specs.Access.{act}
 use Rattle.replay.specs.Decide.{changed, applied}

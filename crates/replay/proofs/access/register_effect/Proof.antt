@@ -1,5 +1,4 @@
 use borrow.Author.Needs.{needs}
-use Rattle.gmch.specs.Choice.{pick}
 use Rattle.gmch.proofs.Choice.{tests}
 use Rattle.replay.specs.Decide.{registerEffect}
 use Rattle.replay.proofs.access.register_effect.Statement.{statement}
