@@ -1,5 +1,6 @@
 # make demo   builds what it needs and shows the main job
 # make test   proves everything, then runs all tests
+# make bench  times the proved code against ordinary Rust; LOADS="window no-ops" for some loads only
 .PHONY: demo test bench
 
 CARGO = cargo --offline
@@ -13,4 +14,4 @@ test:
 	@bash tools/test
 
 bench:
-	@$(CARGO) run $(HOST) --release --quiet --bin bench
+	@$(CARGO) run $(HOST) --release --quiet --bin bench -- $(LOADS)

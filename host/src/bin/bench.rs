@@ -1,6 +1,6 @@
 //! The proved call against the reference: the same records, in the same process, interleaved, each
 //! time the best of many rounds. `MITROPHEL_ROUNDS` sets how many rounds without a better time end a
-//! measurement.
+//! measurement. Arguments are parts of the names of the loads wanted; without one, all are run.
 
 use mitrophel::{call, record, reference, Kind, Record};
 use std::hint::black_box;
@@ -300,7 +300,10 @@ fn main() {
         "{:<34} {:<7} {:>8} {:>8} {:>6}   {:>8} {:>8} {:>6}",
         "load", "unit", "proved", "Rust", "ratio", "proved", "Rust", "ratio"
     );
-    for load in loads() {
+    let wanted: Vec<String> = std::env::args().skip(1).collect();
+    for load in
+        loads().into_iter().filter(|load| wanted.is_empty() || wanted.iter().any(|part| load.name.contains(part)))
+    {
         let units = units(&load) as f64;
         print!("{:<34} {:<7}", load.name, load.unit);
         for caches in [Caches::Warm, Caches::Cold] {
