@@ -10,7 +10,7 @@ ghost use Rattle.gmch.specs.Config.{present, ours, portTarget, registerValue, r
 ghost use Rattle.gmch.specs.Replay.{coldStart};
 
 pub mod access;
-pub mod rows;
+mod rows;
 
 // What a write may change of an aligned word of four bytes: the bits that it stores, and those that a written 1 clears.
 pub struct Bits {
