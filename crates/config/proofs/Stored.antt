@@ -1,20 +1,18 @@
 -- A write by the bits of an aligned word is the definitions' write, byte by byte.
-use mathlib.Core.Path.{_≡_, refl, sym, _∙_}
+use mathlib.Core.Path.{_≡_, refl}
 use mathlib.Core.List.{List}
 use mathlib.Core.Bool.{Bool, true, false, _||_}
-use Prim.Native.Nat.{ℕ, zero, suc, _+_, _-_, _*_, _/_, _%_, _^_, _<_, _≤_}
-use native.Mathlib.Decide.{decLt}
+use Prim.Native.Nat.{ℕ, zero, suc, _+_, _-_, _*_, _/_, _%_, _<_, _≤_}
 use native.Mathlib.Omega.{arith}
-use borrow.Author.Tests.{lt-ltb, le-ltb, eqb-true, eq-eqb, ne-eqb}
-use lib.Bits.{bitAnd}
+use borrow.Author.Tests.{lt-ltb, le-ltb, eqb-true}
 use lib.Dec.{eqb}
 use lib.ListN.{getD, set}
 use Rattle.gmch.specs.Choice.{pick, _and_, _or_, within}
 use Rattle.gmch.specs.Rows.{rows, rowIn, byteOf, masksOf}
-use Rattle.gmch.specs.Config.{withCf8, withDev0, withDev1, withOnce, byteAt, fixedAt, writableAt, newByte, writeByte, writeBytes, touches, configWrite, registerWritten}
+use Rattle.gmch.specs.Config.{withDev0, withDev1, withOnce, fixedAt, writableAt, newByte, writeByte, writeBytes, touches, configWrite}
 use Rattle.gmch.specs.declared.State.{State}
-use Rattle.gmch.proofs.Choice.{choices, pick-true, pick-false}
-use Rattle.config.specs.Word.{share, gathered, writableBits, clearingBits, fixedBits, bitsOf, newIn, writtenIn, stored0, stored1}
+use Rattle.gmch.proofs.Choice.{pick-true, pick-false}
+use Rattle.config.specs.Word.{share, gathered, writableBits, clearingBits, fixedBits, bitsOf, newIn, writtenIn}
 use Rattle.config.specs.declared.Bits.{Bits}
 use Rattle.config.proofs.Bytes.{flagged}
 use Rattle.config.proofs.Every.{every, every-at}
@@ -80,36 +78,16 @@ written-1 (suc n) s w x v o l f u =
     rw (← i, new-byte-is s x (omega arith) w (getD (s .dev1) (x - 256) 0) (v % 256) (omega arith), pick-false (getD (s .dev0) x 0) (getD (s .dev1) (x - 256) 0) (le-ltb _ _ h), pick-false (withDev0 s (set (s .dev0) x (newByte s x (getD (s .dev1) (x - 256) 0) (v % 256)))) (withDev1 s a) (le-ltb _ _ h))
     (written-1 n (withDev1 s a) w (x + 1) (v / 256) o l (omega arith) (omega arith))
 
--- ---- a whole write: the bytes of the devices, then the flags
+-- ---- a whole write: the bytes of a device, then the flags
 
-abbrev pub withDevices : State → List ℕ → List ℕ → State
-withDevices s l m = withDev1 (withDev0 s l) m
+module _ (s : State) (x n v : ℕ) (u : x % 4 + n ≤ 4) (b : Bits) (p : b ≡ bitsOf (s .wrote2c) (s .wrote2e) (x / 4)) where
+  module _ (l : List ℕ) (c e : Bool) (q : c ≡ touches 0x12C x n) (r : e ≡ touches 0x12E x n) where
+    pub stored-0 : x < 256 → l ≡ writtenIn b x (x % 256) n v (s .dev0) → withOnce (withDev0 s l) (s .wrote2c || c) (s .wrote2e || e) ≡ configWrite s x n v
+    stored-0 h k =
+        let i : x % 256 ≡ x = omega arith in
+        flagged s (withDev0 s l) x n v c e (rw (k, p, i) (written-0 n s (x / 4) x v (omega arith) (omega arith) (omega arith))) q r
 
-module _ (s : State) (x n v : ℕ) (h : x < 512) (u : x % 4 + n ≤ 4) where
-  bytes-stored : withDevices s (stored0 (s .wrote2c) (s .wrote2e) x n v (s .dev0)) (stored1 (s .wrote2c) (s .wrote2e) x n v (s .dev1)) ≡ writeBytes s x n v
-  unfolding stored0 stored1
-  bytes-stored = by (decLt x 256)
-    where
-      by : Dec (x < 256)
-          → withDevices s (stored0 (s .wrote2c) (s .wrote2e) x n v (s .dev0)) (stored1 (s .wrote2c) (s .wrote2e) x n v (s .dev1)) ≡ writeBytes s x n v
-      by (yes l) =
-          let i : x % 256 ≡ x = omega arith in
-          simp (lt-ltb x 256 l, choices) (rw i (written-0 n s (x / 4) x v (omega arith) (omega arith) (omega arith)))
-      by (no l) =
-          let i : x % 256 ≡ x - 256 = omega arith in
-          simp (le-ltb x 256 (omega arith), choices) (rw i (written-1 n s (x / 4) x v (omega arith) (omega arith) (omega arith) (omega arith)))
-
-  pub stored-is : (l m : List ℕ) (c e : Bool) → l ≡ stored0 (s .wrote2c) (s .wrote2e) x n v (s .dev0) → m ≡ stored1 (s .wrote2c) (s .wrote2e) x n v (s .dev1)
-      → c ≡ touches 0x12C x n → e ≡ touches 0x12E x n
-      → withOnce (withDevices s l m) (s .wrote2c || c) (s .wrote2e || e) ≡ configWrite s x n v
-  stored-is l m c e p q r t = flagged s (withDevices s l m) x n v c e (rw (p, q) bytes-stored) r t
-
--- ---- a write with target Register x
-
-pub select-is : (s : State) (x n v : ℕ) → x ≡ 0xCF8 → withCf8 s (bitAnd v 0x80FFFFFC) ≡ registerWritten s x n v
-unfolding registerWritten
-select-is s x n v e = sym (pick-true _ _ (eq-eqb x 0xCF8 e))
-
-pub store-is : (s : State) (x n v : ℕ) → x < 512 → configWrite s x n v ≡ registerWritten s x n v
-unfolding registerWritten
-store-is s x n v h = sym (pick-false _ _ (ne-eqb x 0xCF8 (λ e. omega (arith, e))))
+    pub stored-1 : 256 ≤ x → x < 512 → l ≡ writtenIn b x (x % 256) n v (s .dev1) → withOnce (withDev1 s l) (s .wrote2c || c) (s .wrote2e || e) ≡ configWrite s x n v
+    stored-1 o h k =
+        let i : x % 256 ≡ x - 256 = omega arith in
+        flagged s (withDev1 s l) x n v c e (rw (k, p, i) (written-1 n s (x / 4) x v (omega arith) (omega arith) (omega arith) (omega arith))) q r

@@ -47,13 +47,6 @@ unfoldable pub writtenIn : Bits → ℕ → ℕ → ℕ → ℕ → List ℕ →
 writtenIn b x i zero v l = l
 writtenIn b x i (suc n) v l = writtenIn b (x + 1) (i + 1) n (v / 256) (set l i (newIn b x (getD l i 0) (v % 256)))
 
--- the bytes of device 0 and of device 1 after that write, where c and e say whether 2Ch and 2Eh have been written
-unfoldable pub stored0 : Bool → Bool → ℕ → ℕ → ℕ → List ℕ → List ℕ
-stored0 c e x n v l = pick (ltb x 256) (writtenIn (bitsOf c e (x / 4)) x (x % 256) n v l) l
-
-unfoldable pub stored1 : Bool → Bool → ℕ → ℕ → ℕ → List ℕ → List ℕ
-stored1 c e x n v l = pick (ltb x 256) l (writtenIn (bitsOf c e (x / 4)) x (x % 256) n v l)
-
 -- ---- the same on the whole word
 
 unfoldable pub mergeWord : ℕ → ℕ → ℕ → ℕ → ℕ

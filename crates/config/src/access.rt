@@ -1,7 +1,6 @@
-// Reads and writes of configuration bytes. A byte is named by x = device * 256 + register, and register_value and
-// register_written show that it is below 512. Bytes are taken from the state in place: passing it on would copy it.
+// Reads and writes of configuration bytes. A byte is named by x = device * 256 + register, and its callers
+// show that it is below 512. Bytes are taken from the state in place: passing it on would copy it.
 use crate::Bits;
-use crate::rows;
 use gmch::State;
 ghost use mathlib.Core.Path.{_≡_};
 ghost use Prim.Native.Nat.{ℕ, _+_, _-_, _%_, _<_, _≤_};
@@ -9,8 +8,8 @@ ghost use lib.Dec.{ltb};
 ghost use lib.ListN.{getD};
 ghost use Rattle.gmch.specs.Choice.{pick};
 ghost use Rattle.gmch.specs.Smram.{smramWritten};
-ghost use Rattle.gmch.specs.Config.{byteAt, touches, configWrite, readByte, configRead};
-ghost use Rattle.config.specs.Word.{writtenIn, stored0, stored1, mergeWord, touchedBits, newWord};
+ghost use Rattle.gmch.specs.Config.{byteAt, touches, readByte, configRead};
+ghost use Rattle.config.specs.Word.{writtenIn, mergeWord, touchedBits, newWord};
 
 // What a write leaves in SMRAM: bit 0 is cleared by writing 1, and the lock holds the others.
 fn smram_written(old: u8, v: u8) -> u8
@@ -73,7 +72,7 @@ fn new_word(b: Bits, x: u32, n: u32, old: u32, v: u32) -> u32
 }
 
 // Writes the n low bytes of v at x, in the bytes of x's device. b is what a write may change of the aligned word of x.
-fn write(dev: &mut [u8; 256], b: Bits, x: u32, n: u32, v: u32)
+pub fn write(dev: &mut [u8; 256], b: Bits, x: u32, n: u32, v: u32)
     requires { ⌜ x % 4 + n ≤ 4 ⌝ }
     ensures { λ _. ⌜ now (dev .exit) ≡ writtenIn b x (x % 256) n v (now (dev .entry)) ⌝ }
 {
@@ -95,45 +94,6 @@ pub fn is_touched(k: u32, x: u32, n: u32) -> bool
         return k < x + n;
     }
     false
-}
-
-// Writes the n low bytes of v at x, in one aligned word. The flags say whether 2Ch and 2Eh of device 1 have been written.
-pub fn store(
-    dev0: &mut [u8; 256],
-    dev1: &mut [u8; 256],
-    wrote2c: bool,
-    wrote2e: bool,
-    x: u32,
-    n: u32,
-    v: u32,
-)
-    requires { ⌜ (x < 512) × (x % 4 + n ≤ 4) ⌝ }
-    ensures { λ _. ⌜ (now (dev0 .exit) ≡ stored0 wrote2c wrote2e x n v (now (dev0 .entry))) × (now (dev1 .exit) ≡ stored1 wrote2c wrote2e x n v (now (dev1 .entry))) ⌝ }
-{
-    let b = rows::bits_of(x / 4, wrote2c, wrote2e);
-    if x < 256 {
-        write(dev0, b, x, n, v);
-    } else {
-        write(dev1, b, x, n, v);
-    }
-}
-
-// The state after a write of the n low bytes of v to configuration registers.
-pub fn config_write(s: State, x: u32, n: u32, v: u32) -> State
-    requires { ⌜ (x < 512) × (x % 4 + n ≤ 4) ⌝ }
-    ensures { λ r. ⌜ r ≡ configWrite s x n v ⌝ }
-{
-    let mut dev0 = s.dev0;
-    let mut dev1 = s.dev1;
-    store(&mut dev0, &mut dev1, s.wrote2c, s.wrote2e, x, n, v);
-    let c = is_touched(0x12C, x, n);
-    let e = is_touched(0x12E, x, n);
-    let mut t = s;
-    t.dev0 = dev0;
-    t.dev1 = dev1;
-    t.wrote2c = t.wrote2c | c;
-    t.wrote2e = t.wrote2e | e;
-    t
 }
 
 // What the byte x, which is b, reads as: GMADR bit 25 reads 0 while the window is 64 MiB.

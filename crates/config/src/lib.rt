@@ -6,11 +6,11 @@ ghost use mathlib.Core.Path.{_≡_};
 ghost use mathlib.Core.Logic.{_⊎_};
 ghost use Prim.Native.Nat.{ℕ, _+_, _%_, _<_, _≤_};
 ghost use lib.Bits.{bitAnd};
-ghost use Rattle.gmch.specs.Config.{present, ours, portTarget, registerValue, registerWritten};
+ghost use Rattle.gmch.specs.Config.{present, ours, portTarget, registerValue};
 ghost use Rattle.gmch.specs.Replay.{coldStart};
 
 pub mod access;
-mod rows;
+pub mod rows;
 
 // What a write may change of an aligned word of four bytes: the bits that it stores, and those that a written 1 clears.
 pub struct Bits {
@@ -54,7 +54,7 @@ fn is_present(smram: u32, device: u32) -> bool
         return true;
     }
     if device == 1 {
-        return 0 < smram / 64 % 4;
+        return 0 < map::gms(smram);
     }
     false
 }
@@ -106,17 +106,4 @@ pub fn selected(v: u32) -> u32
     ensures { λ r. ⌜ r ≡ bitAnd v 0x80FFFFFC ⌝ }
 {
     v & 0x80FFFFFC
-}
-
-// The state after a write of `width` bytes of v at x, under the same terms.
-pub fn register_written(s: State, x: u32, width: u32, v: u32) -> State
-    requires { ⌜ ((x ≡ 0xCF8) ⊎ (x < 512)) × (x % 4 + width ≤ 4) ⌝ }
-    ensures { λ r. ⌜ r ≡ registerWritten s x width v ⌝ }
-{
-    if x == 0xCF8 {
-        let mut t = s;
-        t.cf8 = selected(v);
-        return t;
-    }
-    access::config_write(s, x, width, v)
 }

@@ -23,7 +23,9 @@ fn select(s: State, v: u32) -> State {
                 text(b"CF8h is written ");
                 hex(v);
                 text(b": register 00000cf8\n");
-                return config::register_written(s, 0xCF8, 4, v);
+                let mut t = s;
+                t.cf8 = config::selected(v);
+                return t;
             }
             s
         }

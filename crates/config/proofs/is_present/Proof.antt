@@ -8,5 +8,6 @@ is-present-spec =
     tie.close
     (tie.spec
     (λ c. unfold present in search tests)
-    (λ c. unfold present in search tests)
+    (λ c κs. tt)
+    (λ c. unfold present in rw (c .gms .ensures) (search tests))
     (λ c. unfold present in search tests))

@@ -32,7 +32,7 @@ loop-again c =
     let r = getD rows (b .loop .i) zeroRow in
     let e : c .if1 .a ≡ filledBy d r (b .loop .a) =
     ⊎-elim
-    (λ w. rw (w .4, w .3 .ensures) (sym (pick-true _ _ (eq-eqb _ _ (w .0 .taken)))))
+    (λ w. w .4 ∙ w .3 .ensures ∙ sym (pick-true _ _ (eq-eqb _ _ (w .0 .taken))))
     (λ w. w .1 ∙ sym (pick-false _ _ (ne-eqb _ _ (w .0 .left))))
     (c .if1 .came)
     in
