@@ -12,7 +12,7 @@ use Rattle.gmch.specs.Rows.{rows, rowIn, byteOf, masksOf}
 use Rattle.gmch.specs.Config.{withDev0, withDev1, withOnce, fixedAt, writableAt, newByte, writeByte, writeBytes, touches, configWrite}
 use Rattle.gmch.specs.declared.State.{State}
 use Rattle.gmch.proofs.Choice.{pick-true, pick-false}
-use Rattle.config.specs.Word.{share, gathered, writableBits, clearingBits, fixedBits, bitsOf, newIn, writtenIn}
+use Rattle.config.specs.Word.{share, gathered, rowBits, fixedBits, bitsOf, newIn, writtenIn}
 use Rattle.config.specs.declared.Bits.{Bits}
 use Rattle.config.proofs.Bytes.{flagged}
 use Rattle.config.proofs.Every.{every, every-at}
@@ -29,17 +29,17 @@ stores : Bool → Bool → ℕ → Bool
 stores c e x = eqb (byteOf (bitsOf c e (x / 4) .writable) (x % 4)) (storable c e x)
 
 clears : ℕ → Bool
-clears x = eqb (byteOf (clearingBits (x / 4)) (x % 4)) (masksOf x .clearing)
+clears x = eqb (byteOf (rowBits (x / 4) .clearing) (x % 4)) (masksOf x .clearing)
 
 all-store : (c e : Bool) → every (stores c e) 512 ≡ true
-unfolding every stores storable bitsOf writableBits fixedBits gathered share rows masksOf rowIn pick within _and_ _or_
+unfolding every stores storable bitsOf rowBits fixedBits gathered share rows masksOf rowIn pick within _and_ _or_
 all-store true true = refl
 all-store true false = refl
 all-store false true = refl
 all-store false false = refl
 
 all-clear : every clears 512 ≡ true
-unfolding every clears clearingBits gathered share rows masksOf rowIn pick within _and_
+unfolding every clears rowBits gathered share rows masksOf rowIn pick within _and_
 all-clear = refl
 
 module _ (s : State) (x : ℕ) (h : x < 512) where

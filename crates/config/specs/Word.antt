@@ -21,11 +21,9 @@ unfoldable pub gathered : (Row → ℕ) → ℕ → List Row → ℕ → ℕ
 gathered f p [] w = p
 gathered f p (r ∷ rs) w = gathered f (bitOr p (share (f r) (r .at) w)) rs w
 
-unfoldable pub writableBits : ℕ → ℕ
-writableBits w = gathered (λ (r : Row). r .writable) 0 rows w
-
-unfoldable pub clearingBits : ℕ → ℕ
-clearingBits w = gathered (λ (r : Row). r .clearing) 0 rows w
+-- what the rows say of the aligned word w
+unfoldable pub rowBits : ℕ → Bits
+rowBits w = record { writable = gathered (λ (r : Row). r .writable) 0 rows w; clearing = gathered (λ (r : Row). r .clearing) 0 rows w }
 
 -- the bits of the write-once registers 2Ch and 2Eh of device 1 that have been written
 unfoldable pub fixedBits : Bool → Bool → ℕ → ℕ
@@ -33,7 +31,7 @@ fixedBits c e w = pick (eqb w 0x4B) (pick c (pick e 0xFFFFFFFF 0xFFFF) (pick e 0
 
 -- what a write may change now of the aligned word w
 unfoldable pub bitsOf : Bool → Bool → ℕ → Bits
-bitsOf c e w = record { writable = bitAnd (writableBits w) (2 ^ 32 - 1 - fixedBits c e w); clearing = clearingBits w }
+bitsOf c e w = record { writable = bitAnd (rowBits w .writable) (2 ^ 32 - 1 - fixedBits c e w); clearing = rowBits w .clearing }
 
 -- ---- a byte, and the bytes of a device
 

@@ -9,7 +9,7 @@ ghost use lib.ListN.{getD};
 ghost use Rattle.gmch.specs.Choice.{pick};
 ghost use Rattle.gmch.specs.Smram.{smramWritten};
 ghost use Rattle.gmch.specs.Config.{byteAt, touches, readByte, configRead};
-ghost use Rattle.config.specs.Word.{writtenIn, mergeWord, touchedBits, newWord};
+ghost use Rattle.config.specs.Word.{writtenIn, mergeWord, newWord};
 
 // What a write leaves in SMRAM: bit 0 is cleared by writing 1, and the lock holds the others.
 fn smram_written(old: u8, v: u8) -> u8
@@ -47,23 +47,16 @@ fn merged(old: u32, v: u32, writable: u32, clearing: u32) -> u32
     (old & !writable | v & writable) & !(v & clearing)
 }
 
-// All bits of the n bytes from byte k on.
-fn touched_bits(k: u32, n: u32) -> u32
-    requires { ⌜ (k < 4) × (k + n ≤ 4) ⌝ }
-    ensures { λ r. ⌜ r ≡ touchedBits k n ⌝ }
-{
-    let ones = ((1u64 << (8 * n)) - 1) as u32;
-    ones << (8 * k)
-}
-
 // What a write of the n low bytes of v at x leaves in the aligned word of x, which was old.
 fn new_word(b: Bits, x: u32, n: u32, old: u32, v: u32) -> u32
     requires { ⌜ x % 4 + n ≤ 4 ⌝ }
     ensures { λ r. ⌜ r ≡ newWord b x n old v ⌝ }
 {
-    let k = x % 4;
-    let t = touched_bits(k, n);
-    let new = merged(old, v << (8 * k), b.writable & t, b.clearing & t);
+    let k = 8 * (x % 4);
+    // all bits of the bytes that are touched
+    let ones = ((1u64 << (8 * n)) - 1) as u32;
+    let t = ones << k;
+    let new = merged(old, v << k, b.writable & t, b.clearing & t);
     if (x == 0x70) & (0 < n) {
         let smram = smram_written((old % 256) as u8, (v % 256) as u8);
         return new / 256 * 256 + smram as u32;

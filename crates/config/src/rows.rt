@@ -2,13 +2,12 @@
 use crate::Bits;
 use gmch::Row;
 ghost use mathlib.Core.Path.{_≡_};
-ghost use Prim.Native.Nat.{ℕ, _+_, _*_, _<_, _≤_};
-ghost use Rattle.gmch.specs.Words.{storeLe};
-ghost use Rattle.gmch.specs.Rows.{byteOf, defaultsFrom, idByte, coldBytes};
-ghost use Rattle.config.specs.Word.{share, writableBits, clearingBits, fixedBits, bitsOf};
+ghost use Prim.Native.Nat.{ℕ, _*_, _<_};
+ghost use Rattle.gmch.specs.Rows.{defaultsFrom, idByte, coldBytes};
+ghost use Rattle.config.specs.Word.{share, rowBits, fixedBits, bitsOf};
 
 const ROWS: [Row; 24] = [
-    // device 0
+    // device 0: VID
     Row {
         at: 0x000,
         width: 2,
@@ -16,7 +15,7 @@ const ROWS: [Row; 24] = [
         writable: 0,
         clearing: 0,
     },
-    // 7122h on a DC100
+    // DID; 7122h on a DC100
     Row {
         at: 0x002,
         width: 2,
@@ -24,6 +23,7 @@ const ROWS: [Row; 24] = [
         writable: 0,
         clearing: 0,
     },
+    // PCICMD
     Row {
         at: 0x004,
         width: 2,
@@ -31,6 +31,7 @@ const ROWS: [Row; 24] = [
         writable: 0x0100,
         clearing: 0,
     },
+    // PCISTS
     Row {
         at: 0x006,
         width: 2,
@@ -38,6 +39,7 @@ const ROWS: [Row; 24] = [
         writable: 0,
         clearing: 0x7000,
     },
+    // RID
     Row {
         at: 0x008,
         width: 1,
@@ -45,6 +47,7 @@ const ROWS: [Row; 24] = [
         writable: 0,
         clearing: 0,
     },
+    // BCC
     Row {
         at: 0x00B,
         width: 1,
@@ -68,6 +71,7 @@ const ROWS: [Row; 24] = [
         writable: 0x0001,
         clearing: 0,
     },
+    // MISCC2
     Row {
         at: 0x080,
         width: 1,
@@ -75,6 +79,7 @@ const ROWS: [Row; 24] = [
         writable: 0xFF,
         clearing: 0,
     },
+    // BUFF_SC
     Row {
         at: 0x092,
         width: 2,
@@ -82,7 +87,7 @@ const ROWS: [Row; 24] = [
         writable: 0xFFFF,
         clearing: 0,
     },
-    // device 1
+    // device 1: VID1
     Row {
         at: 0x100,
         width: 2,
@@ -90,7 +95,7 @@ const ROWS: [Row; 24] = [
         writable: 0,
         clearing: 0,
     },
-    // 7123h on a DC100
+    // DID1; 7123h on a DC100
     Row {
         at: 0x102,
         width: 2,
@@ -98,6 +103,7 @@ const ROWS: [Row; 24] = [
         writable: 0,
         clearing: 0,
     },
+    // PCICMD1
     Row {
         at: 0x104,
         width: 2,
@@ -105,6 +111,7 @@ const ROWS: [Row; 24] = [
         writable: 0x0003,
         clearing: 0,
     },
+    // BCC1
     Row {
         at: 0x10B,
         width: 1,
@@ -143,6 +150,7 @@ const ROWS: [Row; 24] = [
         writable: 0xFFFF,
         clearing: 0,
     },
+    // CAPPOINT
     Row {
         at: 0x134,
         width: 1,
@@ -150,6 +158,7 @@ const ROWS: [Row; 24] = [
         writable: 0,
         clearing: 0,
     },
+    // INTRLINE
     Row {
         at: 0x13C,
         width: 1,
@@ -157,6 +166,7 @@ const ROWS: [Row; 24] = [
         writable: 0xFF,
         clearing: 0,
     },
+    // INTRPIN
     Row {
         at: 0x13D,
         width: 1,
@@ -164,6 +174,7 @@ const ROWS: [Row; 24] = [
         writable: 0,
         clearing: 0,
     },
+    // PM_CAPID
     Row {
         at: 0x1DC,
         width: 2,
@@ -171,6 +182,7 @@ const ROWS: [Row; 24] = [
         writable: 0,
         clearing: 0,
     },
+    // PM_CAP
     Row {
         at: 0x1DE,
         width: 2,
@@ -188,27 +200,6 @@ const ROWS: [Row; 24] = [
     },
 ];
 
-// Byte k of a number, from the lowest. No register is wider than four bytes.
-fn byte_of(n: u32, k: u32) -> u32
-    requires { ⌜ k < 4 ⌝ }
-    ensures { λ r. ⌜ r ≡ byteOf n k ⌝ }
-{
-    (n >> (8 * k)) % 256
-}
-
-// Stores the `width` low bytes of n from `at` on.
-fn put_bytes(a: &mut [u8; 256], at: u32, width: u32, n: u32)
-    requires { ⌜ (at + width ≤ 256) × (width ≤ 4) ⌝ }
-    ensures { λ _. ⌜ now (a .exit) ≡ storeLe width at n (now (a .entry)) ⌝ }
-{
-    let mut k: u32 = 0;
-    while k < width {
-        let i = (at + k) as usize;
-        a[i] = byte_of(n, k) as u8;
-        k = k + 1;
-    }
-}
-
 // The defaults of a device's 256 bytes, row by row.
 fn default_bytes(device: u32) -> [u8; 256]
     requires { ⌜ device < 2 ⌝ }
@@ -220,7 +211,7 @@ fn default_bytes(device: u32) -> [u8; 256]
     while i < 24 {
         let r = table[i];
         if r.at / 256 == device {
-            put_bytes(&mut a, r.at % 256, r.width, r.default);
+            words::store(&mut a, (r.at % 256) as usize, r.width, r.default);
         }
         i = i + 1;
     }
@@ -260,9 +251,9 @@ fn share(n: u32, at: u32, w: u32) -> u32
     0
 }
 
-// The bits of the aligned word w that a write stores. The loop is unrolled, and the rows are then constants.
-fn writable_bits(w: u32) -> u32
-    ensures { λ r. ⌜ r ≡ writableBits w ⌝ }
+// What the rows say of the aligned word w. Two loops: the compiler unrolls each, and the rows are then constants.
+fn row_bits(w: u32) -> Bits
+    ensures { λ r. ⌜ r ≡ rowBits w ⌝ }
 {
     let table = ROWS;
     let mut p: u32 = 0;
@@ -272,22 +263,17 @@ fn writable_bits(w: u32) -> u32
         p = p | share(r.writable, r.at, w);
         i = i + 1;
     }
-    p
-}
-
-// The bits of the aligned word w that a written 1 clears.
-fn clearing_bits(w: u32) -> u32
-    ensures { λ r. ⌜ r ≡ clearingBits w ⌝ }
-{
-    let table = ROWS;
-    let mut p: u32 = 0;
-    let mut i: usize = 0;
-    while i < 24 {
-        let r = table[i];
-        p = p | share(r.clearing, r.at, w);
-        i = i + 1;
+    let mut c: u32 = 0;
+    let mut j: usize = 0;
+    while j < 24 {
+        let r = table[j];
+        c = c | share(r.clearing, r.at, w);
+        j = j + 1;
     }
-    p
+    Bits {
+        writable: p,
+        clearing: c,
+    }
 }
 
 // The bits of the write-once registers 2Ch and 2Eh of device 1 that have been written.
@@ -313,8 +299,9 @@ fn fixed_bits(w: u32, wrote2c: bool, wrote2e: bool) -> u32
 pub fn bits_of(w: u32, wrote2c: bool, wrote2e: bool) -> Bits
     ensures { λ r. ⌜ r ≡ bitsOf wrote2c wrote2e w ⌝ }
 {
+    let b = row_bits(w);
     Bits {
-        writable: writable_bits(w) & !fixed_bits(w, wrote2c, wrote2e),
-        clearing: clearing_bits(w),
+        writable: b.writable & !fixed_bits(w, wrote2c, wrote2e),
+        clearing: b.clearing,
     }
 }

@@ -8,5 +8,4 @@ bits-of-spec =
     (tie.spec
     (λ c κs. tt)
     (λ c κs. tt)
-    (λ c κs. tt)
     (λ c. unfold bitsOf in cc))
