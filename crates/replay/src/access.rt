@@ -84,23 +84,13 @@ pub fn target_of(b: Board, s: State, table: &[u32], kind: u32, a: Access) -> Tar
 
 // ---- what it does there
 
-// The answer for a target with the value that was read; the state is kept.
-pub fn kept(t: Target, v: u32) -> Decided
-    ensures { λ d. ⌜ d ≡ record { answer = reply t v; effect = Effect.Keep } ⌝ }
+// The answer for a target with the value that was read, and what is asked of the state.
+pub fn done(t: Target, v: u32, e: Effect) -> Decided
+    ensures { λ d. ⌜ d ≡ record { answer = reply t v; effect = e } ⌝ }
 {
     Decided {
         answer: records::reply(t, v),
-        effect: Effect::Keep,
-    }
-}
-
-// The answer for a target; SMRAM's error bit is set.
-fn erred(t: Target) -> Decided
-    ensures { λ d. ⌜ d ≡ record { answer = reply t 0; effect = Effect.Rarely (Rare.Error) } ⌝ }
-{
-    Decided {
-        answer: records::reply(t, 0),
-        effect: Effect::Rarely(Rare::Error),
+        effect: e,
     }
 }
 
@@ -161,32 +151,26 @@ pub fn act(s: State, table: &mut [u32], memory: &mut [u8], a: Access, v: u32, t:
     match t {
         Target::Memory(p) => {
             let x = in_memory(memory, write, width, v, p);
-            kept(t, x)
+            done(t, x, Effect::Keep)
         }
         Target::Mapped(o) => {
             let fences = s.fences;
             let regs = s.regs;
             let x = at_mapped(fences, regs, table, write, v, o);
             let e = store_effect(write, o, v);
-            Decided {
-                answer: records::reply(t, x),
-                effect: e,
-            }
+            done(t, x, e)
         }
         Target::Register(n) => {
             if write {
                 let e = register_effect(n, width, v);
-                return Decided {
-                    answer: records::reply(t, 0),
-                    effect: e,
-                };
+                return done(t, 0, e);
             }
             let x = config::register_value(s, n, width);
-            kept(t, x)
+            done(t, x, Effect::Keep)
         }
-        Target::HubError(_) => erred(t),
-        Target::Refused(_) => kept(t, 0),
-        Target::Hub(_) => kept(t, 0),
-        Target::Vga(_) => kept(t, 0),
+        Target::HubError(_) => done(t, 0, Effect::Rarely(Rare::Error)),
+        Target::Refused(_) => done(t, 0, Effect::Keep),
+        Target::Hub(_) => done(t, 0, Effect::Keep),
+        Target::Vga(_) => done(t, 0, Effect::Keep),
     }
 }

@@ -104,7 +104,7 @@ pub fn decide(b: Board, s: State, table: &mut [u32], memory: &mut [u8], r: Recor
     ensures { λ d. ⌜ (carried s (now (table .exit)) (now (memory .exit)) d ≡ oneRecord b (machine s (now (table .entry)) (now (memory .entry))) r) × Sound (d .effect) ⌝ }
 {
     if !records::well_formed(r) {
-        return access::kept(Target::Refused(13), 0);
+        return access::done(Target::Refused(13), 0, Effect::Keep);
     }
     if r.kind == 8 {
         let m = access::map_of(b, s);

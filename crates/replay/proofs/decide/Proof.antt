@@ -11,7 +11,7 @@ use Rattle.replay.proofs.decide.Tie as tie
 
 returns : tie.Need-returns
 unfolding applied
-returns c = rw (c .kept .ensures) (malformed _ _ _ (flag (ap not (c .before .before .well-formed .ensures)) (c .before .if1 .taken)), tt)
+returns c = rw (c .done .ensures) (malformed _ _ _ (flag (ap not (c .before .before .well-formed .ensures)) (c .before .if1 .taken)), tt)
 
 returns-2 : tie.Need-returns-2
 unfolding applied
