@@ -6,13 +6,12 @@ use lib.Dec.{leb}
 use Rattle.gmch.specs.Choice.{pick}
 use Rattle.gmch.specs.Words.{loadLe, storeLe}
 use Rattle.gmch.specs.Records.{accessOf, fitsWord, reply}
-use Rattle.gmch.specs.Config.{withError, smramOf, portTarget, registerValue, registerWritten}
+use Rattle.gmch.specs.Config.{withError, portTarget, registerValue, registerWritten}
 use Rattle.gmch.specs.Machine.{Machine, withState, withTable, withMain}
 use Rattle.gmch.specs.Map.{mapOf, routeOf, masterTarget}
 use Rattle.gmch.specs.Table.{windowReach, lookOf}
 use Rattle.gmch.specs.Mapped.{misfit, mappedValue, mappedWritten, tableWritten}
 use Rattle.gmch.specs.declared.Board.{Board}
-use Rattle.gmch.specs.declared.State.{State}
 use Rattle.gmch.specs.declared.Map.{Map}
 use Rattle.gmch.specs.declared.Record.{Record}
 use Rattle.gmch.specs.declared.Access.{Access}
@@ -38,17 +37,18 @@ resolved m fences control look a (Registers o) = pick (misfit o (a .width)) (Ref
 resolved m fences control look a (Window o) = reached (windowReach m fences control look o)
 
 -- an access of kinds 1 to 7: 2; ports; the processor; hub masters
-unfoldable pub targetIn : Board → State → (ℕ → Look) → ℕ → Access → Target
-targetIn b s look kind a =
-    let m = mapOf b s in
+unfoldable pub targetIn : Map → ℕ → List ℕ → ℕ → (ℕ → Look) → ℕ → Access → Target
+targetIn m cf8 fences control look kind a =
     pick (not (fitsWord (a .width) (a .address))) (Refused 2)
-    (pick (leb kind 2) (portTarget (s .cf8) (smramOf s) (a .width) (a .address))
-    (pick (leb kind 5) (resolved m (s .fences) (s .regs .control) look a (routeOf m a))
+    (pick (leb kind 2) (portTarget cf8 (m .smram) (a .width) (a .address))
+    (pick (leb kind 5) (resolved m fences control look a (routeOf m a))
     (masterTarget m a)))
 
 -- a record of these kinds that keeps the layout
 unfoldable pub targetOf : Board → Machine → Record → Target
-targetOf b x r = targetIn b (x .state) (lookOf x) (r .kind) (accessOf r)
+targetOf b x r =
+    let s = x .state in
+    targetIn (mapOf b s) (s .cf8) (s .fences) (s .regs .control) (lookOf x) (r .kind) (accessOf r)
 
 -- ---- what it does there
 
@@ -71,7 +71,7 @@ act x a v (Memory p) =
 act x a v (Register n) =
     pick (a .write)
     (done (withState x (registerWritten (x .state) n (a .width) v)) (Register n) 0)
-    (done x (Register n) (registerValue (x .state) n (a .width)))
+    (done x (Register n) (registerValue (x .state .cf8) (x .state .dev0) (x .state .dev1) n (a .width)))
 act x a v (Hub p) = done x (Hub p) 0
 act x a v (HubError p) = done (withState x (withError (x .state))) (HubError p) 0
 act x a v (Vga o) = done x (Vga o) 0
