@@ -8,7 +8,7 @@ ghost use mathlib.Core.Path.{_≡_};
 ghost use Prim.Native.Nat.{_+_, _≤_};
 ghost use lib.ListN.{length, take, drop};
 ghost use lib.Seq.{sets};
-ghost use Rattle.gmch.specs.Records.{recordOf, isWrite, takesData, isProcessor, isManagement, accessOf, wellFormed, fitsWord, codeOf, numberOf, addressOf, reply, resetReply, answerBytes};
+ghost use Rattle.gmch.specs.Records.{recordOf, isWrite, isProcessor, isManagement, accessOf, wellFormed, fitsWord, codeOf, numberOf, addressOf, reply, resetReply, answerBytes};
 
 // ---- records
 
@@ -33,13 +33,6 @@ pub fn is_write(kind: u32) -> bool
     ensures { λ r. ⌜ r ≡ isWrite kind ⌝ }
 {
     (kind == 2) | ((kind == 5) | (kind == 7))
-}
-
-// A write's value, and the budget of a parser run.
-fn takes_data(kind: u32) -> bool
-    ensures { λ r. ⌜ r ≡ takesData kind ⌝ }
-{
-    is_write(kind) | (kind == 8)
 }
 
 // Kinds 3 to 5 are the processor's.
@@ -69,18 +62,26 @@ pub fn access_of(r: Record) -> Access
     }
 }
 
-// The record keeps the layout; else code 13.
+// The record keeps the layout; else code 13. By kind, so that each is asked only what its layout says.
 pub fn well_formed(r: Record) -> bool
     ensures { λ b. ⌜ b ≡ wellFormed r ⌝ }
 {
-    (1 <= r.kind)
-        & (r.kind <= 9)
-        & ((r.flags == 0) | is_processor(r.kind) & (r.flags == 1))
-        & (r.zero == 0)
-        & (r.rest == 0)
-        & (takes_data(r.kind) | (r.value == 0))
-        & ((r.kind <= 7) | (r.width == 0) & (r.address == 0))
-        & ((3 <= r.kind) | (r.address <= 65535))
+    let reserved = (r.zero == 0) & (r.rest == 0);
+    let plain = (r.flags == 0) & reserved;
+    let flagged = ((r.flags == 1) | (r.flags == 0)) & reserved;
+    let kind = r.kind;
+    match kind {
+        1 => (r.value == 0) & ((r.address <= 65535) & plain),
+        2 => (r.address <= 65535) & plain,
+        3 => (r.value == 0) & flagged,
+        4 => (r.value == 0) & flagged,
+        5 => flagged,
+        6 => (r.value == 0) & plain,
+        7 => plain,
+        8 => ((r.width == 0) & (r.address == 0)) & plain,
+        9 => (r.value == 0) & (((r.width == 0) & (r.address == 0)) & plain),
+        _ => false,
+    }
 }
 
 // One, two or four bytes inside an aligned word of four; else code 2.
