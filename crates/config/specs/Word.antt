@@ -3,9 +3,9 @@ use Prim.Native.Nat.{ℕ, zero, suc, _+_, _-_, _*_, _/_, _%_, _^_}
 use mathlib.Core.List.{List, [], _∷_}
 use mathlib.Core.Bool.{Bool}
 use lib.ListN.{getD, set}
-use lib.Dec.{eqb, ltb}
+use lib.Dec.{eqb}
 use lib.Bits.{bitAnd, bitOr}
-use Rattle.gmch.specs.Choice.{pick, _and_}
+use Rattle.gmch.specs.Choice.{pick}
 use Rattle.gmch.specs.Smram.{smramWritten}
 use Rattle.gmch.specs.Rows.{rows, byteOf}
 use Rattle.gmch.specs.Config.{merge}
@@ -44,20 +44,3 @@ newIn b x old v =
 unfoldable pub writtenIn : Bits → ℕ → ℕ → ℕ → ℕ → List ℕ → List ℕ
 writtenIn b x i zero v l = l
 writtenIn b x i (suc n) v l = writtenIn b (x + 1) (i + 1) n (v / 256) (set l i (newIn b x (getD l i 0) (v % 256)))
-
--- ---- the same on the whole word
-
-unfoldable pub mergeWord : ℕ → ℕ → ℕ → ℕ → ℕ
-mergeWord old v writable clearing =
-    bitAnd (bitOr (bitAnd old (2 ^ 32 - 1 - writable)) (bitAnd v writable)) (2 ^ 32 - 1 - bitAnd v clearing)
-
--- all bits of the n bytes from byte k on
-unfoldable pub touchedBits : ℕ → ℕ → ℕ
-touchedBits k n = (2 ^ (8 * n) - 1) * 2 ^ (8 * k) % 2 ^ 32
-
--- what a write of the n low bytes of v at x leaves in its aligned word, which was old. SMRAM is the lowest byte of its word
-unfoldable pub newWord : Bits → ℕ → ℕ → ℕ → ℕ → ℕ
-newWord b x n old v =
-    let t = touchedBits (x % 4) n in
-    let new = mergeWord old (v * 2 ^ (8 * (x % 4)) % 2 ^ 32) (bitAnd (b .writable) t) (bitAnd (b .clearing) t) in
-    pick (eqb x 0x70 and ltb 0 n) (new / 256 * 256 + smramWritten (old % 256) (v % 256)) new

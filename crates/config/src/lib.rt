@@ -91,14 +91,20 @@ pub fn port_target(cf8: u32, smram: u32, width: u32, port: u32) -> Target
 
 // What a read of `width` bytes at x gives, where x is CF8h or device * 256 + register.
 // The caller has x from port_target and the width from the test for code 2.
-pub fn register_value(s: State, x: u32, width: u32) -> u32
+pub fn register_value<'a>(
+    cf8: u32,
+    dev0: &'a [u8; 256],
+    dev1: &'a [u8; 256],
+    x: u32,
+    width: u32,
+) -> u32
     requires { ⌜ ((x ≡ 0xCF8) ⊎ (x < 512)) × (x % 4 + width ≤ 4) ⌝ }
-    ensures { λ r. ⌜ r ≡ registerValue s x width ⌝ }
+    ensures { λ r. ⌜ r ≡ registerValue cf8 (now (dev0 .entry)) (now (dev1 .entry)) x width ⌝ }
 {
     if x == 0xCF8 {
-        return s.cf8;
+        return cf8;
     }
-    access::config_read(s, x, width)
+    access::config_read(dev0, dev1, x, width)
 }
 
 // What CF8h keeps of the data written.

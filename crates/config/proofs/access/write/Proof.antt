@@ -1,62 +1,53 @@
--- The word is made of the device's bytes, and its store is a write of its bytes.
-use mathlib.Core.Path.{_≡_, subst, _∙_}
-use Prim.Native.Nat.{ℕ, _+_, _*_, _/_, _%_, _<_}
-use native.Mathlib.Nat.{add-zero}
+-- What is left to write gives the whole.
+use Prim.Native.Nat.{_+_, _-_, _%_, _≤_}
+use mathlib.Core.Path.{_≡_, _∙_}
+use native.Mathlib.Nat.{add-zero, sub-zero, sub-self}
 use native.Mathlib.Omega.{arith}
 use borrow.Author.Needs.{needs}
-use lib.ListN.{length, getD}
-use Rattle.gmch.specs.Words.{loadLe}
-use Rattle.config.proofs.Device.{four, word-is}
+use Rattle.config.specs.Word.{writtenIn}
+use Rattle.config.proofs.Bytes.{write-step}
 use Rattle.config.proofs.access.write.Statement.{statement}
 use Rattle.config.proofs.access.write.Tie as tie
+use Rattle.config.proofs.access.write.Reads as reads
+use Rattle.config.proofs.access.write.Lts as lts
+use Rattle.config.proofs.access.new_byte.Reads as new-byte-reads
 
-returns : tie.Need-returns
+abbrev Inv-loop : tie.InvT-loop
+Inv-loop dev₀ b x n v rest₀ i₀ dev rest i =
+    (i ≤ n) × (writtenIn b (x + i) (x % 256 + i) (n - i) rest dev ≡ writtenIn b x (x % 256) n v dev₀)
+
+abbrev μ-loop : tie.MeasureT-loop
+μ-loop dev₀ b x n v rest₀ i₀ dev rest i = n - i
+
+loop-again : tie.Need-loop-again Inv-loop μ-loop
+loop-again c =
+    let b = c .before .before .before in
+    let a = b .before .args in (
+      omega arith,
+      rw (c .new-byte .ensures) (write-step (a .b) (a .x) (a .x % 256) (b .loop .i) (a .n) (b .loop .rest) (b .loop .dev) (omega arith) ∙ b .loop .inv .1),
+    )
+
+returns : tie.Need-returns Inv-loop μ-loop
+unfolding writtenIn
 returns c =
-    let w4 = c .before .before .before in
-    let w3 = w4 .before .before in
-    let w2 = w3 .before .before in
-    let w1 = w2 .before .before in
-    let a = w1 .before .before .args in
-    let l = a .dev .now in
-    let i = a .x % 256 / 4 * 4 in
-    let s : length l ≡ 256 = search needs in
-    let e0 = w1 .wide .ensures in
-    let e1 = w2 .wide2 .ensures in
-    let e2 = w3 .wide3 .ensures in
-    let e3 = w4 .wide4 .ensures in
-    let o : w1 .wide .result + w2 .wide2 .result * 256 + w3 .wide3 .result * 65536 + w4 .wide4 .result * 16777216 ≡ loadLe 4 i l =
-    unfold loadLe in simp add-zero (omega arith)
-    in
-    let h : (k : ℕ) → k < 4 → getD l (i + k) 0 < 256 =
-    four (λ (k : ℕ). getD l (i + k) 0 < 256) (rw add-zero (omega (arith, e0))) (omega (arith, e1)) (omega (arith, e2)) (omega (arith, e3))
-    in
-    c .store4 .ensures
-    ∙ rw (c .before .new-word .ensures, o)
-    (word-is (a .b) (a .x) (a .x % 256) (a .n) (a .v) l (w1 .before .before .pre) (omega arith) (omega arith) h)
+    let e : c .before .before .args .n - c .before .loop .i ≡ 0 = omega arith in
+    rw e at (c .before .loop .inv .1)
 
 pub write-spec : {M : Type 1} → statement M
 write-spec =
     tie.close
     (tie.spec
+    Inv-loop
+    μ-loop
+    (λ c. (omega arith, simp (add-zero, sub-zero)))
+    (λ c. omega arith)
     (λ c. search needs)
-    (λ c. search needs)
-    (λ c. search needs)
-    (λ c κs. tt)
-    (λ c. search needs)
-    (λ c. search needs)
-    (λ c κs. tt)
-    (λ c. search needs)
-    (λ c. search needs)
-    (λ c κs. tt)
-    (λ c. search needs)
+    (λ c. omega arith)
+    (λ c. omega arith)
     (λ c. search needs)
     (λ c κs. tt)
-    (λ c. search needs)
-    (λ c. search needs)
-    (λ c. search needs)
-    (λ c. search needs)
-    (λ c. search needs)
-    (λ c. search needs)
-    (λ c κs. c .before .before .before .before .before .before .before .before .before .pre)
-    (λ c κs. search needs)
+    (λ c. omega arith)
+    (λ c. omega arith)
+    (λ c. omega arith)
+    loop-again
     returns)
