@@ -1,14 +1,12 @@
 -- The bytes that an access takes are there.
-use Prim.Native.Nat.{ℕ, _≤_}
+use Prim.Native.Nat.{ℕ, _%_, _≤_}
 use mathlib.Core.Path.{_≡_, refl}
 use mathlib.Core.List.{List}
 use mathlib.Core.Bool.{Bool, true, false}
 use native.Mathlib.Omega.{arith}
 use Rattle.gmch.specs.Records.{fitsWord}
-use Rattle.gmch.specs.Map.{Tom, Sized, mapOf, routeOf}
+use Rattle.gmch.specs.Map.{Tom, Sized, routeOf}
 use Rattle.gmch.specs.Access.{targetIn}
-use Rattle.gmch.specs.declared.Board.{Board}
-use Rattle.gmch.specs.declared.State.{State}
 use Rattle.gmch.specs.declared.Map.{Map}
 use Rattle.gmch.specs.declared.Access.{Access}
 use Rattle.gmch.specs.declared.Look.{Look}
@@ -28,12 +26,12 @@ in-window h (to-safe e) = tt
 in-window h registers-safe = tt
 in-window h (offset-safe o l k) = omega arith
 
--- what a map that was read off the state gives, and the route of an access that code 2 lets pass
-pub route-ready : (b : Board) (s : State) (table : List ℕ) (m : Map) (a : Access) (r : Route) → Sized (mapOf b s) table → m ≡ mapOf b s
-    → fitsWord (a .width) (a .address) ≡ true → r ≡ routeOf m a → Sized m table × InWindow r
-route-ready b s table m a r z e f k =
+-- the route of an access that code 2 lets pass
+pub route-ready : (table : List ℕ) (m : Map) (a : Access) (r : Route) → Sized m table → fitsWord (a .width) (a .address) ≡ true
+    → r ≡ routeOf m a → Sized m table × InWindow r
+route-ready table m a r z f k =
     let h = fits-width (a .width) (a .address) f .1 in
-    rw (k, e) (z, in-window (z .1) (route-safe (mapOf b s) (z .0) a h (z .2)))
+    rw k (z, in-window (z .1) (route-safe m (z .0) a h (z .2)))
 
 -- ---- targets
 
@@ -46,14 +44,17 @@ reachable z d error-safe = tt
 reachable z d vga-safe = tt
 reachable z d mapped-safe = tt
 
-module _ (b : Board) (s : State) (look : ℕ → Look) (kind : ℕ) (a : Access) where
-  misfit-refused : fitsWord (a .width) (a .address) ≡ false → targetIn b s look kind a ≡ Refused 2
+module _ (m : Map) (cf8 : ℕ) (fences : List ℕ) (control : ℕ) (look : ℕ → Look) (kind : ℕ) (a : Access) where
+  abbrev t : Target
+  t = targetIn m cf8 fences control look kind a
+
+  misfit-refused : fitsWord (a .width) (a .address) ≡ false → t ≡ Refused 2
   unfolding targetIn
   misfit-refused e = simp (e, choices)
 
-  pub target-reachable : Tom (b .tom) → Reachable (b .tom) (a .width) (targetIn b s look kind a)
-  target-reachable z = by (fitsWord (a .width) (a .address)) refl
+  pub target-reachable : Tom (m .tom) → m .gmadr % 4 ≡ 0 → Reachable (m .tom) (a .width) t
+  target-reachable z g = by (fitsWord (a .width) (a .address)) refl
     where
-      by : (f : Bool) → fitsWord (a .width) (a .address) ≡ f → Reachable (b .tom) (a .width) (targetIn b s look kind a)
-      by true e = reachable z (fits-width (a .width) (a .address) e .0) (target-safe b s look kind a z)
+      by : (f : Bool) → fitsWord (a .width) (a .address) ≡ f → Reachable (m .tom) (a .width) t
+      by true e = reachable z (fits-width (a .width) (a .address) e .0) (target-safe m cf8 fences control look kind a z g)
       by false e = rw (misfit-refused e) tt

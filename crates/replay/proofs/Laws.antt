@@ -5,7 +5,6 @@ use mathlib.Core.Logic.{_⊎_, inl, inr, _≢_}
 use mathlib.Core.List.{List}
 use mathlib.Core.Bool.{Bool, true, false, not}
 use native.Mathlib.Omega.{arith}
-use lib.ListN.{length}
 use lib.Dec.{eqb}
 use borrow.Author.Tests.{eq-eqb, ne-eqb, eqb-false, le-ltb}
 use Rattle.gmch.specs.Choice.{pick, within}
@@ -13,22 +12,21 @@ use Rattle.gmch.specs.Words.{loadLe, storeLe}
 use Rattle.gmch.specs.Records.{accessOf, wellFormed, reply, resetReply}
 use Rattle.gmch.specs.Config.{withRegs, Placed, registerWritten}
 use Rattle.gmch.specs.Machine.{Machine, machine, lent}
-use Rattle.gmch.specs.Map.{Sized, mapFrom, mapOf}
-use Rattle.gmch.specs.Table.{fetch, lookIn, lookOf}
+use Rattle.gmch.specs.Map.{mapOf}
+use Rattle.gmch.specs.Table.{fetch, lookIn}
 use Rattle.gmch.specs.Mapped.{isEntry, isFence, mappedValue, regsWritten, mappedWritten, tableWritten}
-use Rattle.gmch.specs.Ring.{run}
-use Rattle.gmch.specs.Access.{Out, targetIn, targetOf, done, act}
+use Rattle.gmch.specs.Ring.{withHead, run}
+use Rattle.gmch.specs.Access.{Out, targetOf, done, act}
 use Rattle.gmch.specs.Replay.{fetchFrom, runReply, parserRun, coldStart, coldTable, coldMachine, reset, oneRecord}
 use Rattle.gmch.specs.declared.Board.{Board}
 use Rattle.gmch.specs.declared.State.{State}
-use Rattle.gmch.specs.declared.Map.{Map}
 use Rattle.gmch.specs.declared.Ran.{Ran}
 use Rattle.gmch.specs.declared.Record.{Record}
 use Rattle.gmch.specs.declared.Access.{Access}
 use Rattle.gmch.specs.declared.Answer.{Answer}
 use Rattle.gmch.specs.declared.Target.the-variants.{Refused, Memory, Register, Mapped}
 use Rattle.gmch.proofs.Choice.{choices, pick-elim, within-from}
-use Rattle.gmch.proofs.Steps.{run-memories}
+use Rattle.gmch.proofs.Steps.{run-memories, run-keeps}
 use Rattle.replay.specs.Decide.{Sound, changed, applied, storeEffect, registerEffect}
 
 abbrev out : State → List ℕ → List ℕ → Answer → Out
@@ -121,20 +119,18 @@ module _ (b : Board) (x : Machine) (r : Record) where
       unfolding oneRecord
       a-reset k = simp (e, ne-eqb (r .kind) 8 n, eq-eqb (r .kind) 9 k, choices)
 
-      pub an-access : r .kind ≢ 9 → act x (accessOf r) (r .value) (targetIn b (x .state) (lookOf x) (r .kind) (accessOf r)) ≡ oneRecord b x r
-      unfolding oneRecord targetOf
+      pub an-access : r .kind ≢ 9 → act x (accessOf r) (r .value) (targetOf b x r) ≡ oneRecord b x r
+      unfolding oneRecord
       an-access k = simp (e, ne-eqb (r .kind) 8 n, ne-eqb (r .kind) 9 k, choices)
 
--- a run by the map that was read off the state, which leaves memory as it is
-module _ (b : Board) (s : State) (table main : List ℕ) (m : Map) (e : m ≡ mapOf b s) where
-  pub run-ready : Sized (mapOf b s) table → length main ≡ b .tom → Sized m table × (length main ≡ m .tom)
-  unfolding mapFrom
-  run-ready z l = rw e (z, l)
-
-  pub run-done : (budget : ℕ) (q : Ran) → q ≡ run (fetch m (s .regs .control) (lookIn table)) budget 0 (s .regs) (lent main) .ran
-      → out (withRegs s (q .regs)) table main (runReply q) ≡ parserRun b (machine s table main) budget
-  unfolding parserRun
-  run-done budget q f = rw (f, e, run-memories (fetchFrom b (machine s table main)) budget (s .regs) (lent main)) refl
+-- a run, which changes head and identity alone, and leaves memory as it is
+pub run-done : (b : Board) (s : State) (table main : List ℕ) (budget : ℕ) (q : Ran)
+    → q ≡ run (fetch (mapOf b s) (s .regs .control) (lookIn table)) budget 0 (s .regs) (lent main) .ran
+    → out (withRegs s (withHead (s .regs) (q .regs .head) (q .regs .identity))) table main (runReply q) ≡ parserRun b (machine s table main) budget
+unfolding parserRun
+run-done b s table main budget q f =
+    let fetches = fetchFrom b (machine s table main) in
+    rw (f, run-memories fetches budget (s .regs) (lent main), ← run-keeps fetches budget (s .regs) (lent main)) refl
 
 pub reset-done : (b : Board) (s : State) (table main : List ℕ) → out (coldStart (b .kind)) coldTable main resetReply ≡ reset b (machine s table main)
 unfolding reset coldMachine

@@ -8,6 +8,7 @@ use lib.ListN.{length, take, drop, length-append}
 use lib.Seq.{sets, sets-eq, length-sets, drop-drop, length-take-le, take-at, take-all}
 use Rattle.gmch.specs.Records.{answerBytes}
 use Rattle.gmch.specs.Mapped.{lineOf}
+use Rattle.gmch.specs.Ring.{withHead}
 use Rattle.gmch.specs.Config.{withCf8, withDev0, withDev1, withOnce, withRegs, touches}
 use Rattle.gmch.specs.Machine.{Machine, machine}
 use Rattle.gmch.specs.Access.{Out}
@@ -15,7 +16,6 @@ use Rattle.gmch.specs.Replay.{oneRecord, answered, replay}
 use Rattle.gmch.specs.Call.{cut, joined}
 use Rattle.gmch.specs.declared.Board.{Board}
 use Rattle.gmch.specs.declared.State.{State}
-use Rattle.gmch.specs.declared.Regs.{Regs}
 use Rattle.gmch.specs.declared.Record.{Record}
 use Rattle.config.specs.Word.{bitsOf, writtenIn}
 use Rattle.config.specs.declared.Bits.{Bits}
@@ -117,6 +117,6 @@ module _ (s : State) (e : Effect) (n width v : ℕ) (h : e ≡ Configure n width
       let u : Sound (Configure n width v) = subst (λ (x : Effect). Sound x) h sound in
       rw h (stored-1 s n width v (u .1) bits p l c d q r k (u .0) m)
 
-pub ring-is : (s : State) (e : Effect) (q : Regs) → e ≡ Ring q → withRegs s q ≡ applied s e
+pub ring-is : (s : State) (e : Effect) (head identity : ℕ) → e ≡ Ring head identity → withRegs s (withHead (s .regs) head identity) ≡ applied s e
 unfolding applied
-ring-is s e q h = rw h
+ring-is s e head identity h = rw h

@@ -2,6 +2,7 @@
 -- left to do to the state given as an effect.
 use Prim.Native.Nat.{ℕ, _+_, _%_, _≤_, _<_}
 use mathlib.Core.List.{List}
+use mathlib.Core.Path.{_≡_}
 use mathlib.Core.Bool.{Bool}
 use lib.Bits.{bitAnd}
 use lib.Dec.{eqb}
@@ -12,7 +13,9 @@ use Rattle.gmch.specs.Mapped.{isEntry, mappedWritten}
 use Rattle.gmch.specs.Access.{Out}
 use Rattle.gmch.specs.Replay.{coldStart}
 use Rattle.words.specs.Width.{Width}
+use Rattle.gmch.specs.Ring.{withHead}
 use Rattle.gmch.specs.declared.State.{State}
+use Rattle.gmch.specs.declared.Regs.{Regs}
 use Rattle.gmch.specs.declared.Target.{Target}
 use Rattle.gmch.specs.declared.Target.the-variants.{Refused, Memory, Register, Hub, HubError, Vga, Mapped}
 use Rattle.gmch.specs.declared.Route.{Route}
@@ -31,7 +34,7 @@ changed s (Reset kind) = coldStart kind
 
 unfoldable pub applied : State → Effect → State
 applied s Keep = s
-applied s (Ring r) = withRegs s r
+applied s (Ring head identity) = withRegs s (withHead (s .regs) head identity)
 applied s (Select v) = withCf8 s v
 applied s (Configure n width v) = configWrite s n width v
 applied s (Rarely e) = changed s e
@@ -47,6 +50,10 @@ registerEffect n width v = pick (eqb n 0xCF8) (Select (bitAnd v 0x80FFFFFC)) (Co
 -- a decision in the state s that left this table and this memory
 abbrev pub carried : State → List ℕ → List ℕ → Decided → Out
 carried s table main d = record { after = machine (applied s (d .effect)) table main; answer = d .answer }
+
+-- a state by the parts that a decision goes by, and whether 2Ch and 2Eh have been written, which it does not look at
+abbrev pub stateOf : ℕ → List ℕ → List ℕ → List ℕ → Regs → Bool → Bool → State
+stateOf cf8 dev0 dev1 fences regs c e = record { cf8 = cf8; dev0 = dev0; dev1 = dev1; wrote2c = c; wrote2e = e; fences = fences; regs = regs }
 
 -- ---- the bytes that are taken are there
 
@@ -69,7 +76,13 @@ Reachable tom width (Mapped o) = Unit {0}
 -- those of a configuration write
 abbrev pub Sound : Effect → Type 0
 Sound Keep = Unit {0}
-Sound (Ring r) = Unit {0}
+Sound (Ring head identity) = Unit {0}
 Sound (Select v) = Unit {0}
 Sound (Configure n width v) = (n < 512) × (n % 4 + width ≤ 4)
 Sound (Rarely e) = Unit {0}
+
+-- ---- a decision is right
+
+-- in every state of these parts it is what the definitions say, and its effect can be carried out
+abbrev pub Decides : (Bool → Bool → State) → List ℕ → List ℕ → Decided → (State → Out) → Type 0
+Decides s table main d out = ((c e : Bool) → carried (s c e) table main d ≡ out (s c e)) × Sound (d .effect)

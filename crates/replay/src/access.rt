@@ -8,7 +8,6 @@ use gmch::Map;
 use gmch::Reach;
 use gmch::Regs;
 use gmch::Route;
-use gmch::State;
 use gmch::Target;
 ghost use mathlib.Core.Path.{_≡_};
 ghost use Prim.Native.Nat.{_+_, _≤_};
@@ -17,34 +16,26 @@ ghost use Rattle.gmch.specs.Choice.{pick};
 ghost use Rattle.gmch.specs.Words.{loadLe, storeLe};
 ghost use Rattle.gmch.specs.Records.{reply};
 ghost use Rattle.gmch.specs.Machine.{machine};
-ghost use Rattle.gmch.specs.Map.{Sized, mapOf};
+ghost use Rattle.gmch.specs.Map.{Sized, mapIn};
 ghost use Rattle.gmch.specs.Table.{lookIn};
 ghost use Rattle.gmch.specs.Mapped.{mappedValue, tableWritten};
 ghost use Rattle.gmch.specs.Access.{resolved, targetIn, act};
-ghost use Rattle.replay.specs.Decide.{Reachable, InWindow, Sound, storeEffect, registerEffect, carried};
+ghost use Rattle.replay.specs.Decide.{Reachable, InWindow, storeEffect, registerEffect, stateOf, Decides};
 ghost use Rattle.words.specs.Width.{Width};
 
-// What the map goes by, read off the state.
-pub fn map_of(b: Board, s: State) -> Map
-    ensures { λ r. ⌜ r ≡ mapOf b s ⌝ }
+// What the map goes by, read off the devices' bytes.
+pub fn map_of<'a>(b: Board, dev0: &'a [u8; 256], dev1: &'a [u8; 256]) -> Map
+    ensures { λ r. ⌜ r ≡ mapIn b (now (dev0 .entry)) (now (dev1 .entry)) ⌝ }
 {
-    map::map_from(
-        b,
-        s.dev0[0x70],
-        s.dev0[0x72],
-        s.dev1[0x04],
-        s.dev1[0x13],
-        s.dev1[0x16],
-        s.dev1[0x17],
-    )
+    map::map_from(b, dev0[0x70], dev0[0x72], dev1[0x04], dev1[0x13], dev1[0x16], dev1[0x17])
 }
 
 // ---- where it ends
 
 // What the rules leave open: the list of registers, or fences and table. `target_of` shows that an offset is in the window.
-fn resolve(m: Map, fences: [u32; 8], control: u32, table: &[u32], a: Access, route: Route) -> Target
+fn resolve(m: Map, fences: &[u32; 8], control: u32, table: &[u32], a: Access, route: Route) -> Target
     requires { ⌜ Sized m (now table) × InWindow route ⌝ }
-    ensures { λ r. ⌜ r ≡ resolved m fences control (lookIn (now (table .entry))) a route ⌝ }
+    ensures { λ r. ⌜ r ≡ resolved m (now (fences .entry)) control (lookIn (now (table .entry))) a route ⌝ }
 {
     match route {
         Route::To(t) => t,
@@ -54,30 +45,38 @@ fn resolve(m: Map, fences: [u32; 8], control: u32, table: &[u32], a: Access, rou
             }
             Target::Mapped(o)
         }
-        Route::Window(o) => match graphics::window(m, fences, control, table, o) {
-            Reach::At(p) => Target::Memory(p),
-            Reach::Denied(c) => Target::Refused(c),
-        },
+        Route::Window(o) => {
+            let all = *fences;
+            match graphics::window(m, all, control, table, o) {
+                Reach::At(p) => Target::Memory(p),
+                Reach::Denied(c) => Target::Refused(c),
+            }
+        }
     }
 }
 
 // An access of kinds 1 to 7.
-pub fn target_of(b: Board, s: State, table: &[u32], kind: u32, a: Access) -> Target
-    requires { ⌜ Sized (mapOf b s) (now table) ⌝ }
-    ensures { λ t. ⌜ t ≡ targetIn b s (lookIn (now (table .entry))) kind a ⌝ }
+pub fn target_of(
+    m: Map,
+    cf8: u32,
+    fences: &[u32; 8],
+    control: u32,
+    table: &[u32],
+    kind: u32,
+    a: Access,
+) -> Target
+    requires { ⌜ Sized m (now table) ⌝ }
+    ensures { λ t. ⌜ t ≡ targetIn m cf8 (now (fences .entry)) control (lookIn (now (table .entry))) kind a ⌝ }
 {
     if !records::fits_word(a.width, a.address) {
         return Target::Refused(2);
     }
     if kind <= 2 {
-        let smram = words::wide(s.dev0[0x70]);
-        return config::port_target(s.cf8, smram, a.width, a.address);
+        return config::port_target(cf8, m.smram, a.width, a.address);
     }
-    let m = map_of(b, s);
     if kind <= 5 {
-        let fences = s.fences;
         let route = map::route(m, a);
-        return resolve(m, fences, s.regs.control, table, a, route);
+        return resolve(m, fences, control, table, a, route);
     }
     map::master_target(m, a)
 }
@@ -142,9 +141,20 @@ fn register_effect(n: u32, width: u32, v: u32) -> Effect
 }
 
 // An access where it ends. `decide` shows that the bytes are there.
-pub fn act(s: State, table: &mut [u32], memory: &mut [u8], a: Access, v: u32, t: Target) -> Decided
+pub fn act<'a>(
+    cf8: u32,
+    dev0: &'a [u8; 256],
+    dev1: &'a [u8; 256],
+    fences: &'a [u32; 8],
+    regs: Regs,
+    table: &mut [u32],
+    memory: &mut [u8],
+    a: Access,
+    v: u32,
+    t: Target,
+) -> Decided
     requires { ⌜ (length (now table) ≡ 16384) × Reachable (length (now memory)) (a .width) t ⌝ }
-    ensures { λ d. ⌜ (carried s (now (table .exit)) (now (memory .exit)) d ≡ act (machine s (now (table .entry)) (now (memory .entry))) a v t) × Sound (d .effect) ⌝ }
+    ensures { λ d. ⌜ Decides (stateOf cf8 (now (dev0 .entry)) (now (dev1 .entry)) (now (fences .entry)) regs) (now (table .exit)) (now (memory .exit)) d (λ s. act (machine s (now (table .entry)) (now (memory .entry))) a v t) ⌝ }
 {
     let write = a.write;
     let width = a.width;
@@ -154,9 +164,8 @@ pub fn act(s: State, table: &mut [u32], memory: &mut [u8], a: Access, v: u32, t:
             done(t, x, Effect::Keep)
         }
         Target::Mapped(o) => {
-            let fences = s.fences;
-            let regs = s.regs;
-            let x = at_mapped(fences, regs, table, write, v, o);
+            let all = *fences;
+            let x = at_mapped(all, regs, table, write, v, o);
             let e = store_effect(write, o, v);
             done(t, x, e)
         }
@@ -165,7 +174,7 @@ pub fn act(s: State, table: &mut [u32], memory: &mut [u8], a: Access, v: u32, t:
                 let e = register_effect(n, width, v);
                 return done(t, 0, e);
             }
-            let x = config::register_value(s, n, width);
+            let x = config::register_value(cf8, dev0, dev1, n, width);
             done(t, x, Effect::Keep)
         }
         Target::HubError(_) => done(t, 0, Effect::Rarely(Rare::Error)),

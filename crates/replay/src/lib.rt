@@ -3,6 +3,7 @@
 // an access that reaches memory never copies it.
 use gmch::Answer;
 use gmch::Board;
+use gmch::Map;
 use gmch::Ran;
 use gmch::Record;
 use gmch::Regs;
@@ -13,9 +14,9 @@ ghost use Prim.Native.Nat.{_%_};
 ghost use lib.ListN.{length};
 ghost use Rattle.gmch.specs.Smram.{smramError};
 ghost use Rattle.gmch.specs.Machine.{machine};
-ghost use Rattle.gmch.specs.Map.{Tom, Sized, mapOf};
+ghost use Rattle.gmch.specs.Map.{Tom, Sized, mapIn};
 ghost use Rattle.gmch.specs.Replay.{runReply, coldTable, oneRecord};
-ghost use Rattle.replay.specs.Decide.{Sound, changed, carried};
+ghost use Rattle.replay.specs.Decide.{changed, stateOf, Decides};
 ghost use Rattle.replay.specs.Flat.{Replays};
 
 mod access;
@@ -23,8 +24,8 @@ mod access;
 // What a record asks of the state. The loop carries it out in place.
 pub enum Effect {
     Keep,
-    // A parser run leaves these registers.
-    Ring(Regs),
+    // A parser run leaves this head and this interrupt identity.
+    Ring(u32, u32),
     // CF8h is this.
     Select(u32),
     // A write of configuration registers: at device * 256 + register, width, value.
@@ -99,21 +100,29 @@ fn zero(table: &mut [u32])
 }
 
 // Decides a record: its answer and its effect; table and memory are changed here. `replay` shows the lengths.
-pub fn decide(b: Board, s: State, table: &mut [u32], memory: &mut [u8], r: Record) -> Decided
-    requires { ⌜ Sized (mapOf b s) (now table) × (length (now memory) ≡ b .tom) ⌝ }
-    ensures { λ d. ⌜ (carried s (now (table .exit)) (now (memory .exit)) d ≡ oneRecord b (machine s (now (table .entry)) (now (memory .entry))) r) × Sound (d .effect) ⌝ }
+pub fn decide<'a>(
+    b: Board,
+    m: Map,
+    cf8: u32,
+    dev0: &'a [u8; 256],
+    dev1: &'a [u8; 256],
+    fences: &'a [u32; 8],
+    regs: Regs,
+    table: &mut [u32],
+    memory: &mut [u8],
+    r: Record,
+) -> Decided
+    requires { ⌜ (m ≡ mapIn b (now dev0) (now dev1)) × Sized m (now table) × (length (now memory) ≡ m .tom) ⌝ }
+    ensures { λ d. ⌜ Decides (stateOf cf8 (now (dev0 .entry)) (now (dev1 .entry)) (now (fences .entry)) regs) (now (table .exit)) (now (memory .exit)) d (λ s. oneRecord b (machine s (now (table .entry)) (now (memory .entry))) r) ⌝ }
 {
     if !records::well_formed(r) {
         return access::done(Target::Refused(13), 0, Effect::Keep);
     }
     if r.kind == 8 {
-        let m = access::map_of(b, s);
-        let regs = s.regs;
         let q = ring::run(m, table, memory, r.value, regs);
-        let after = q.regs;
         return Decided {
             answer: run_reply(q),
-            effect: Effect::Ring(after),
+            effect: Effect::Ring(q.regs.head, q.regs.identity),
         };
     }
     if r.kind == 9 {
@@ -124,8 +133,8 @@ pub fn decide(b: Board, s: State, table: &mut [u32], memory: &mut [u8], r: Recor
         };
     }
     let a = records::access_of(r);
-    let t = access::target_of(b, s, table, r.kind, a);
-    access::act(s, table, memory, a, r.value, t)
+    let t = access::target_of(m, cf8, fences, regs.control, table, r.kind, a);
+    access::act(cf8, dev0, dev1, fences, regs, table, memory, a, r.value, t)
 }
 
 // ---- a list of records
@@ -144,16 +153,20 @@ pub fn replay(
 {
     let n = records.len() / 16;
     let mut s = start;
+    // Read off the state once, and again after each effect that may change it.
+    let mut m = access::map_of(b, &s.dev0, &s.dev1);
     let mut i = 0;
     while i < n {
         let at = 16 * i;
         let r = records::record_at(records, at);
-        let d = decide(b, s, table, memory, r);
+        let regs = s.regs;
+        let d = decide(b, m, s.cf8, &s.dev0, &s.dev1, &s.fences, regs, table, memory, r);
         let e = d.effect;
         match e {
             Effect::Keep => {}
-            Effect::Ring(q) => {
-                s.regs = q;
+            Effect::Ring(head, identity) => {
+                s.regs.head = head;
+                s.regs.identity = identity;
             }
             Effect::Select(v) => {
                 s.cf8 = v;
@@ -169,9 +182,11 @@ pub fn replay(
                 }
                 s.wrote2c = s.wrote2c | wrote2c;
                 s.wrote2e = s.wrote2e | wrote2e;
+                m = access::map_of(b, &s.dev0, &s.dev1);
             }
             Effect::Rarely(x) => {
                 s = apply(s, x);
+                m = access::map_of(b, &s.dev0, &s.dev1);
             }
         }
         records::put_answer(answers, at, d.answer, mapped::line(s.regs));

@@ -2,7 +2,6 @@ use borrow.Author.Needs.{needs}
 use mathlib.Core.Path.{_∙_, sym, ap}
 use mathlib.Core.Bool.{not}
 use borrow.Author.Tests.{le-leb, lt-leb, not-false}
-use Rattle.gmch.specs.Map.{mapFrom}
 use Rattle.gmch.specs.Access.{targetIn}
 use Rattle.gmch.proofs.Choice.{flag, pick-true, pick-false}
 use Rattle.replay.proofs.Bounds.{route-ready}
@@ -16,27 +15,30 @@ returns c = sym (pick-true _ _ (flag (ap not (c .before .fits-word .ensures)) (c
 returns-2 : tie.Need-returns-2
 unfolding targetIn
 returns-2 c =
-    let f = flag (ap not (c .before .before .before .before .before .fits-word .ensures)) (c .before .before .before .before .if1 .left) in
-    c .port-target .ensures ∙ rw (c .before .wide .ensures .0) (sym (pick-false _ _ f ∙ pick-true _ _ (le-leb _ _ (c .before .before .before .if2 .taken))))
+    let f = flag (ap not (c .before .before .before .fits-word .ensures)) (c .before .before .if1 .left) in
+    c .port-target .ensures ∙ sym (pick-false _ _ f ∙ pick-true _ _ (le-leb _ _ (c .before .if2 .taken)))
 
 resolve-requires : tie.Need-resolve-requires
 resolve-requires c κs =
-    let f = not-false _ (flag (ap not (c .before .before .before .before .before .before .fits-word .ensures)) (c .before .before .before .before .before .if1 .left)) in
-    route-ready _ (c .before .before .before .before .before .before .before .before .args .t2) (c .before .before .before .before .before .before .before .before .args .table .now) _ _ _ (c .before .before .before .before .before .before .before .before .pre) (c .before .before .before .map-of .ensures) f (c .route .ensures)
+    let w = c .before .before .before .before in
+    let f = not-false _ (flag (ap not (w .fits-word .ensures)) (c .before .before .before .if1 .left)) in
+    route-ready (w .before .before .args .table .now) _ _ _ (w .before .before .pre) f (c .route .ensures)
 
 returns-3 : tie.Need-returns-3
 unfolding targetIn
 returns-3 c =
-    let f = flag (ap not (c .before .before .before .before .before .before .before .fits-word .ensures)) (c .before .before .before .before .before .before .if1 .left) in
+    let w = c .before .before .before .before in
+    let f = flag (ap not (w .before .fits-word .ensures)) (w .if1 .left) in
     c .resolve .ensures
-    ∙ rw (c .before .route .ensures, c .before .before .before .before .map-of .ensures) (sym (pick-false _ _ f ∙ pick-false _ _ (lt-leb _ _ (c .before .before .before .before .before .if2 .left)) ∙ pick-true _ _ (le-leb _ _ (c .before .before .before .if3 .taken))))
+    ∙ rw (c .before .route .ensures) (sym (pick-false _ _ f ∙ pick-false _ _ (lt-leb _ _ (c .before .before .before .if2 .left)) ∙ pick-true _ _ (le-leb _ _ (c .before .before .if3 .taken))))
 
 returns-4 : tie.Need-returns-4
 unfolding targetIn
 returns-4 c =
-    let f = flag (ap not (c .before .before .before .before .before .fits-word .ensures)) (c .before .before .before .before .if1 .left) in
+    let w = c .before .before .before in
+    let f = flag (ap not (w .before .fits-word .ensures)) (w .if1 .left) in
     c .master-target .ensures
-    ∙ rw (c .before .before .map-of .ensures) (sym (pick-false _ _ f ∙ pick-false _ _ (lt-leb _ _ (c .before .before .before .if2 .left)) ∙ pick-false _ _ (lt-leb _ _ (c .before .if3 .left))))
+    ∙ sym (pick-false _ _ f ∙ pick-false _ _ (lt-leb _ _ (c .before .before .if2 .left)) ∙ pick-false _ _ (lt-leb _ _ (c .before .if3 .left)))
 
 pub target-of-spec : {M : Type 1} → statement M
 target-of-spec =
@@ -44,13 +46,10 @@ target-of-spec =
     (tie.spec
     (λ c κs. search needs)
     returns
-    (λ c. search needs)
-    (λ c κs. search needs)
     (λ c κs. search needs)
     returns-2
-    (λ c κs. search needs)
-    (λ c κs. unfold mapFrom in rw (c .before .before .map-of .ensures) (c .before .before .before .before .before .before .before .pre .0))
+    (λ c κs. c .before .before .before .before .before .pre .0)
     resolve-requires
     returns-3
-    (λ c κs. unfold mapFrom in rw (c .before .map-of .ensures) (c .before .before .before .before .before .before .pre .0))
+    (λ c κs. c .before .before .before .before .before .pre .0)
     returns-4)
