@@ -4,9 +4,12 @@ use mathlib.Core.Path.{_≡_, refl}
 use mathlib.Core.List.{List}
 use mathlib.Core.Bool.{Bool, true, false}
 use native.Mathlib.Omega.{arith}
+use lib.ListN.{length}
 use Rattle.gmch.specs.Records.{fitsWord}
-use Rattle.gmch.specs.Map.{Tom, Sized, routeOf}
+use Rattle.gmch.specs.Map.{Tom, Sized, mapFrom, mapOf, routeOf}
 use Rattle.gmch.specs.Access.{targetIn}
+use Rattle.gmch.specs.declared.Board.{Board}
+use Rattle.gmch.specs.declared.State.{State}
 use Rattle.gmch.specs.declared.Map.{Map}
 use Rattle.gmch.specs.declared.Access.{Access}
 use Rattle.gmch.specs.declared.Look.{Look}
@@ -14,10 +17,17 @@ use Rattle.gmch.specs.declared.Target.{Target}
 use Rattle.gmch.specs.declared.Target.the-variants.{Refused}
 use Rattle.gmch.specs.declared.Route.{Route}
 use Rattle.gmch.proofs.Choice.{choices}
-use Rattle.gmch.proofs.Routing.{Safe, refused-safe, memory-safe, register-safe, hub-safe, error-safe, vga-safe, mapped-safe, target-safe, SafeRoute, to-safe, registers-safe, offset-safe, route-safe}
+use Rattle.gmch.proofs.Routing.{Safe, refused-safe, memory-safe, register-safe, hub-safe, error-safe, vga-safe, mapped-safe, sized, target-safe, SafeRoute, to-safe, registers-safe, offset-safe, route-safe}
 use Rattle.words.specs.Width.{Width}
 use Rattle.words.proofs.Width.{fits-width}
 use Rattle.replay.specs.Decide.{Reachable, InWindow}
+
+-- ---- what a decision asks
+
+pub ready : (b : Board) (s : State) (table main : List ℕ) (m : Map) → m ≡ mapOf b s → Tom (b .tom) → length table ≡ 16384 → length main ≡ b .tom
+    → (m ≡ mapOf b s) × Sized m table × (length main ≡ m .tom)
+unfolding mapFrom
+ready b s table main m e z l k = (e, rw e (sized b s table z l), rw e k)
 
 -- ---- the window
 

@@ -11,11 +11,13 @@ use Rattle.gmch.specs.Mapped.{lineOf}
 use Rattle.gmch.specs.Ring.{withHead}
 use Rattle.gmch.specs.Config.{withCf8, withDev0, withDev1, withOnce, withRegs, touches}
 use Rattle.gmch.specs.Machine.{Machine, machine}
+use Rattle.gmch.specs.Map.{mapOf}
 use Rattle.gmch.specs.Access.{Out}
 use Rattle.gmch.specs.Replay.{oneRecord, answered, replay}
 use Rattle.gmch.specs.Call.{cut, joined}
 use Rattle.gmch.specs.declared.Board.{Board}
 use Rattle.gmch.specs.declared.State.{State}
+use Rattle.gmch.specs.declared.Map.{Map}
 use Rattle.gmch.specs.declared.Record.{Record}
 use Rattle.config.specs.Word.{bitsOf, writtenIn}
 use Rattle.config.specs.declared.Bits.{Bits}
@@ -89,7 +91,17 @@ module _ (b : Board) (records : List ℕ) where
         answers = rw (← en) (ap (λ (y : Flat). y .answers) f ∙ q .replies);
       }
 
--- the state after the effects that the loop carries out itself
+-- ---- the state after an effect, with its map
+
+pub record Next (b : Board) (s : State) (e : Effect) (s′ : State) (m′ : Map) : Type 0 where
+  pub state : s′ ≡ applied s e
+  pub map : m′ ≡ mapOf b s′
+
+-- what an arm of the loop leaves
+pub next : (b : Board) (s : State) (e : Effect) {t s′ : State} {m m′ : Map} → s′ ≡ t → m′ ≡ m → t ≡ applied s e → m ≡ mapOf b t → Next b s e s′ m′
+next b s e p q r k = record { state = p ∙ r; map = rw p (q ∙ k) }
+
+-- the effects that the loop carries out itself
 pub keep-is : (s : State) (e : Effect) → e ≡ Keep → s ≡ applied s e
 unfolding applied
 keep-is s e h = rw h

@@ -7,68 +7,71 @@ use native.Mathlib.Omega.{arith}
 use borrow.Author.Needs.{needs}
 use lib.ListN.{length}
 use Rattle.gmch.specs.Machine.{machine}
-use Rattle.gmch.proofs.Routing.{sized}
-use Rattle.replay.specs.Decide.{applied}
+use Rattle.gmch.specs.Map.{mapOf}
 use Rattle.replay.specs.Flat.{replayFrom}
-use Rattle.replay.proofs.Loop.{keep-is, ring-is, select-is, configure-0, configure-1, rare-is, turn, finished}
+use Rattle.replay.proofs.Bounds.{ready}
+use Rattle.replay.proofs.Loop.{Next, next, keep-is, ring-is, select-is, configure-0, configure-1, rare-is, turn, finished}
 use Rattle.replay.proofs.replay.Statement.{statement}
 use Rattle.replay.proofs.replay.Tie as tie
 
 abbrev Inv-loop : tie.InvT-loop
-Inv-loop b table₀ memory₀ records answers₀ n s₀ i₀ table memory answers s i =
-    (i ≤ n) × (n ≡ length records / 16) × (length table ≡ 16384) × (length memory ≡ b .tom) × (length answers ≡ length records)
+Inv-loop b table₀ memory₀ records answers₀ n s₀ m₀ i₀ table memory answers s m i =
+    (i ≤ n) × (n ≡ length records / 16) × (length table ≡ 16384) × (length memory ≡ b .tom) × (length answers ≡ length records) × (m ≡ mapOf b s)
     × (replayFrom b records (n - i) i (machine s table memory) answers ≡ replayFrom b records n 0 (machine s₀ table₀ memory₀) answers₀)
 
 abbrev μ-loop : tie.MeasureT-loop
-μ-loop b table₀ memory₀ records answers₀ n s₀ i₀ table memory answers s i = n - i
+μ-loop b table₀ memory₀ records answers₀ n s₀ m₀ i₀ table memory answers s m i = n - i
 
 loop-holds : tie.Need-loop-holds Inv-loop μ-loop
-loop-holds c = (omega arith, refl, c .before .before .before .before .pre .1, c .before .before .before .before .pre .2, c .before .before .before .before .pre .4, rw sub-zero refl)
+loop-holds c =
+    let z = c .before .before .before .before .before .before .before .before .pre in
+    (omega arith, refl, z .1, z .2, z .4, c .map-of .ensures, rw sub-zero refl)
 
 decide-requires : tie.Need-decide-requires Inv-loop μ-loop
 decide-requires c κs =
-    let l = c .before .before .before .before .loop in
+    let l = c .before .before .before .before .before .before .before .before .before .loop in
     let h = l .inv in
-    (sized _ (l .s) (l .table) (c .before .before .before .before .before .before .before .before .before .pre .0) (h .2), h .3)
+    ready _ (l .s) (l .table) (l .memory) _ (h .5) (c .before .before .before .before .before .before .before .before .before .before .before .before .before .before .before .before .before .before .pre .0) (h .2) (h .3)
 
 add-i : tie.Need-add-i Inv-loop μ-loop
 add-i c =
-    let t = c .before .before .before .before .before .before .before .before .before .before .before .before .before .before .before .loop-test in
-    let g = c .before .before .before .before .before .before .before .before .before .before .before .before .before .before .before .before .before .before .before .before .before .good in
-    let s = c .before .before .before .before .before .before .before .before .before .before .before .before .before .before .before .before .before .before .shared-slice-known in
+    let t = c .before .before .before .before .before .before .before .before .before .before .before .before .before .before .before .before .before .before .before .before .loop-test in
+    let g = c .before .before .before .before .before .before .before .before .before .before .before .before .before .before .before .before .before .before .before .before .before .before .before .before .before .before .before .before .before .before .good in
+    let s = c .before .before .before .before .before .before .before .before .before .before .before .before .before .before .before .before .before .before .before .before .before .before .before .before .before .before .before .shared-slice-known in
     omega arith
 
 loop-again : tie.Need-loop-again Inv-loop μ-loop
 loop-again c =
-    let l = c .before .before .before .before .before .before .before .before .before .before .before .before .before .before .before .before .loop in
+    let l = c .before .before .before .before .before .before .before .before .before .before .before .before .before .before .before .before .before .before .before .before .before .loop in
     let h = l .inv in
     let d = c .before .before .before .before .before .before .before .before .before .before .before .decide in
     let m = c .before .before .before .before .before .before .match in
     let p = c .before .before .put-answer in
-    let next : m .s ≡ applied (l .s) (d .result .effect) =
-    ⊎-elim (λ w. w .2 ∙ keep-is _ _ (w .1 .given .1)) (λ k.
-    ⊎-elim (λ w. w .3 ∙ ring-is _ _ _ (w .1 .given .1)) (λ k.
-    ⊎-elim (λ w. w .3 ∙ select-is _ _ _ (w .1 .given .1)) (λ k.
-    ⊎-elim (λ w.
-    ⊎-elim
-    (λ v. w .7 ∙ rw (v .3) (configure-0 _ _ _ _ _ (w .1 .given .1) (d .ensures .1) _ (w .3 .ensures) _ _ _ (w .4 .ensures) (w .5 .ensures) (v .0 .taken) (v .2 .ensures)))
-    (λ v. w .7 ∙ rw (v .3) (configure-1 _ _ _ _ _ (w .1 .given .1) (d .ensures .1) _ (w .3 .ensures) _ _ _ (w .4 .ensures) (w .5 .ensures) (v .0 .left) (v .2 .ensures)))
-    (w .6 .came)) (λ w.
-    w .4 ∙ w .3 .ensures ∙ rare-is _ _ _ (w .1 .given .1)) k) k) k) (m .came) in
-    let t = c .before .before .before .before .before .before .before .before .before .before .before .before .before .before .before .loop-test in (
+    let x : Next _ (l .s) (d .result .effect) (m .s) (m .m) =
+    ⊎-elim (λ w. next _ _ _ (w .2) (w .3) (keep-is _ _ (w .1 .given .1)) (h .5)) (λ k.
+    ⊎-elim (λ w. next _ _ _ (w .5) (w .6) (ring-is _ _ _ _ (w .1 .given .1)) (h .5)) (λ k.
+    ⊎-elim (λ w. next _ _ _ (w .3) (w .4) (select-is _ _ _ (w .1 .given .1)) (h .5)) (λ k.
+    ⊎-elim (λ w. next _ _ _ (w .11) (w .12)
+    (⊎-elim
+    (λ v. rw (v .3) (configure-0 _ _ _ _ _ (w .1 .given .1) (d .ensures .1) _ (w .3 .ensures) _ _ _ (w .4 .ensures) (w .5 .ensures) (v .0 .taken) (v .2 .ensures)))
+    (λ v. rw (v .3) (configure-1 _ _ _ _ _ (w .1 .given .1) (d .ensures .1) _ (w .3 .ensures) _ _ _ (w .4 .ensures) (w .5 .ensures) (v .0 .left) (v .2 .ensures)))
+    (w .6 .came)) (w .10 .ensures)) (λ w.
+    next _ _ _ (w .8) (w .9) (w .3 .ensures ∙ rare-is _ _ _ (w .1 .given .1)) (w .7 .ensures)) k) k) k) (m .came) in
+    let t = c .before .before .before .before .before .before .before .before .before .before .before .before .before .before .before .before .before .before .before .before .loop-test in (
       omega arith,
       h .1,
-      d .kept .1 .1 .0 ∙ h .2,
-      d .kept .1 .1 .1 .0 ∙ h .3,
+      d .kept .1 .1 .1 .1 .1 .1 .1 .0 ∙ h .2,
+      d .kept .1 .1 .1 .1 .1 .1 .1 .1 .0 ∙ h .3,
       p .kept .0 ∙ h .4,
-      turn _ _ _ _ _ _ _ _ _ _ _ _ _ _ _ (t .taken) (c .before .before .before .before .before .before .before .before .before .before .before .before .before .before .record-at .ensures) (d .ensures .0) next (c .before .before .before .line .ensures) (p .ensures) ∙ h .5,
+      x .map,
+      turn _ _ _ _ _ _ _ _ _ _ _ _ _ _ _ (t .taken) (c .before .before .before .before .before .before .before .before .before .before .before .before .before .before .before .before .before .before .before .record-at .ensures) (d .ensures .0 _ _) (x .state) (c .before .before .before .line .ensures) (p .ensures) ∙ h .6,
     )
 
 returns : tie.Need-returns Inv-loop μ-loop
 returns c =
     let h = c .before .loop .inv in
-    let q = c .before .before .before .before .before .before .pre in
-    finished _ _ _ _ _ _ _ _ (h .1) (omega arith) (omega arith) (h .5)
+    let q = c .before .before .before .before .before .before .before .before .before .before .pre in
+    finished _ _ _ _ _ _ _ _ (h .1) (omega arith) (omega arith) (h .6)
 
 pub replay-spec : {M : Type 1} → statement M
 replay-spec =
@@ -76,6 +79,7 @@ replay-spec =
     (tie.spec
     Inv-loop
     μ-loop
+    (λ c κs. search needs)
     loop-holds
     (λ c. omega arith)
     (λ c κs. omega arith)
@@ -89,12 +93,14 @@ replay-spec =
     (λ c κs. let u = (rw (c .before .before .before .e3 .given .1) at (c .before .before .before .before .before .before .before .before .before .decide .ensures .1)) in omega arith)
     (λ c κs. let u = (rw (c .before .before .before .before .before .before .e3 .given .1) at (c .before .before .before .before .before .before .before .before .before .before .before .before .decide .ensures .1)) in omega arith)
     (λ c κs. let u = (rw (c .before .before .before .before .before .before .e3 .given .1) at (c .before .before .before .before .before .before .before .before .before .before .before .before .decide .ensures .1)) in omega arith)
+    (λ c κs. search needs)
     (λ c. search needs)
     (λ c κs. search needs)
     (λ c κs. search needs)
-    (λ c κs. let t = c .before .before .before .before .before .before .before .before .before .before .before .before .loop-test in let h = c .before .before .before .before .before .before .before .before .before .before .before .before .before .loop .inv in omega arith)
+    (λ c κs. search needs)
+    (λ c κs. let t = c .before .before .before .before .before .before .before .before .before .before .before .before .before .before .before .before .before .loop-test in let h = c .before .before .before .before .before .before .before .before .before .before .before .before .before .before .before .before .before .before .loop .inv in omega arith)
     add-i
-    (λ c. let t = c .before .before .before .before .before .before .before .before .before .before .before .before .before .before .before .loop-test in let h = c .before .before .before .before .before .before .before .before .before .before .before .before .before .before .before .before .loop .inv in omega arith)
+    (λ c. let t = c .before .before .before .before .before .before .before .before .before .before .before .before .before .before .before .before .before .before .before .before .loop-test in let h = c .before .before .before .before .before .before .before .before .before .before .before .before .before .before .before .before .before .before .before .before .before .loop .inv in omega arith)
     loop-again
     (λ c. omega arith)
     (λ c. omega arith)
