@@ -27,13 +27,28 @@ ghost use Rattle.words.specs.Width.{Width};
 pub fn map_of<'a>(b: Board, dev0: &'a [u8; 256], dev1: &'a [u8; 256]) -> Map
     ensures { λ r. ⌜ r ≡ mapIn b (now (dev0 .entry)) (now (dev1 .entry)) ⌝ }
 {
-    map::map_from(b, dev0[0x70], dev0[0x72], dev1[0x04], dev1[0x13], dev1[0x16], dev1[0x17])
+    map::map_from(
+        b,
+        dev0[0x70],
+        dev0[0x72],
+        dev1[0x04],
+        dev1[0x13],
+        dev1[0x16],
+        dev1[0x17],
+    )
 }
 
 // ---- where it ends
 
 // What the rules leave open: the list of registers, or fences and table. `target_of` shows that an offset is in the window.
-fn resolve(m: Map, fences: &[u32; 8], control: u32, table: &[u32], a: Access, route: Route) -> Target
+fn resolve(
+    m: Map,
+    fences: &[u32; 8],
+    control: u32,
+    table: &[u32],
+    a: Access,
+    route: Route,
+) -> Target
     requires { ⌜ Sized m (now table) × InWindow route ⌝ }
     ensures { λ r. ⌜ r ≡ resolved m (now (fences .entry)) control (lookIn (now (table .entry))) a route ⌝ }
 {

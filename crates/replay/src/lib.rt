@@ -160,7 +160,18 @@ pub fn replay(
         let at = 16 * i;
         let r = records::record_at(records, at);
         let regs = s.regs;
-        let d = decide(b, m, s.cf8, &s.dev0, &s.dev1, &s.fences, regs, table, memory, r);
+        let d = decide(
+            b,
+            m,
+            s.cf8,
+            &s.dev0,
+            &s.dev1,
+            &s.fences,
+            regs,
+            table,
+            memory,
+            r,
+        );
         let e = d.effect;
         match e {
             Effect::Keep => {}

@@ -42,7 +42,7 @@ fn read(s: State) {
             if n % 4 == 0 {
                 if n < 512 {
                     text(b", value ");
-                    hex(config::register_value(s, n, 4));
+                    hex(config::register_value(s.cf8, &s.dev0, &s.dev1, n, 4));
                 }
             }
             text(b"\n");

@@ -15,7 +15,7 @@ read-spec =
     (λ c κs. search needs)
     (λ c. search needs)
     (λ c κs. search needs)
-    (λ c κs. (inr (c .before .before .if2 .taken), omega arith))
+    (λ c κs. (inr (c .before .before .before .before .before .if2 .taken), omega arith))
     (λ c κs. search needs)
     (λ c. search needs)
     (λ c κs. search needs)
