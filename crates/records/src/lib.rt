@@ -8,7 +8,7 @@ ghost use mathlib.Core.Path.{_≡_};
 ghost use Prim.Native.Nat.{_+_, _≤_};
 ghost use lib.ListN.{length, take, drop};
 ghost use lib.Seq.{sets};
-ghost use Rattle.gmch.specs.Records.{recordOf, isWrite, isProcessor, isManagement, accessOf, wellFormed, fitsWord, codeOf, numberOf, addressOf, reply, resetReply, answerBytes};
+ghost use Rattle.gmch.specs.Records.{recordOf, isWrite, isProcessor, isManagement, accessOf, wellFormed, fitsWord, answer, reply, resetReply, answerBytes};
 
 // ---- records
 
@@ -96,48 +96,16 @@ pub fn fits_word(width: u32, address: u32) -> bool
 
 // ---- answers
 
-// The code that an answer gives for a target.
-fn code_of(t: Target) -> u8
-    ensures { λ r. ⌜ r ≡ codeOf t ⌝ }
+// An answer that counts no steps.
+fn answer(code: u8, target: u8, address: u32, value: u32) -> Answer
+    ensures { λ r. ⌜ r ≡ answer code target address value ⌝ }
 {
-    match t {
-        Target::Refused(c) => c,
-        Target::Memory(_) => 0,
-        Target::Register(_) => 0,
-        Target::Hub(_) => 0,
-        Target::HubError(_) => 0,
-        Target::Vga(_) => 0,
-        Target::Mapped(_) => 0,
-    }
-}
-
-// The target's number.
-fn number_of(t: Target) -> u8
-    ensures { λ r. ⌜ r ≡ numberOf t ⌝ }
-{
-    match t {
-        Target::Refused(_) => 0,
-        Target::Memory(_) => 1,
-        Target::Register(_) => 2,
-        Target::Hub(_) => 3,
-        Target::HubError(_) => 3,
-        Target::Vga(_) => 4,
-        Target::Mapped(_) => 5,
-    }
-}
-
-// The address.
-fn address_of(t: Target) -> u32
-    ensures { λ r. ⌜ r ≡ addressOf t ⌝ }
-{
-    match t {
-        Target::Refused(_) => 0,
-        Target::Memory(p) => p,
-        Target::Register(n) => n,
-        Target::Hub(p) => p,
-        Target::HubError(p) => p,
-        Target::Vga(o) => o,
-        Target::Mapped(o) => o,
+    Answer {
+        code: code,
+        target: target,
+        address: address,
+        value: value,
+        count: 0,
     }
 }
 
@@ -145,12 +113,14 @@ fn address_of(t: Target) -> u32
 pub fn reply(t: Target, v: u32) -> Answer
     ensures { λ r. ⌜ r ≡ reply t v ⌝ }
 {
-    Answer {
-        code: code_of(t),
-        target: number_of(t),
-        address: address_of(t),
-        value: v,
-        count: 0,
+    match t {
+        Target::Refused(c) => answer(c, 0, 0, v),
+        Target::Memory(p) => answer(0, 1, p, v),
+        Target::Register(n) => answer(0, 2, n, v),
+        Target::Hub(p) => answer(0, 3, p, v),
+        Target::HubError(p) => answer(0, 3, p, v),
+        Target::Vga(o) => answer(0, 4, o, v),
+        Target::Mapped(o) => answer(0, 5, o, v),
     }
 }
 
@@ -158,13 +128,7 @@ pub fn reply(t: Target, v: u32) -> Answer
 pub fn reset_reply() -> Answer
     ensures { λ r. ⌜ r ≡ resetReply ⌝ }
 {
-    Answer {
-        code: 0,
-        target: 0,
-        address: 0,
-        value: 0,
-        count: 0,
-    }
+    answer(0, 0, 0, 0)
 }
 
 // Stores an answer's 16 bytes at `at`.
