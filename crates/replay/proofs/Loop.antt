@@ -22,12 +22,12 @@ use Rattle.gmch.specs.declared.Record.{Record}
 use Rattle.config.specs.Word.{bitsOf, writtenIn}
 use Rattle.config.specs.declared.Bits.{Bits}
 use Rattle.config.proofs.Stored.{stored-0, stored-1}
-use Rattle.replay.specs.Decide.{Sound, changed, applied, carried}
+use Rattle.access.specs.Decide.{Sound, changed, applied, carried}
 use Rattle.replay.specs.Flat.{Flat, recordAt, replayFrom, Replays}
-use Rattle.replay.specs.declared.Decided.{Decided}
-use Rattle.replay.specs.declared.Effect.{Effect}
-use Rattle.replay.specs.declared.Effect.the-variants.{Keep, Ring, Select, Configure, Rarely}
-use Rattle.replay.specs.declared.Rare.{Rare}
+use Rattle.access.specs.declared.Decided.{Decided}
+use Rattle.access.specs.declared.Effect.{Effect}
+use Rattle.access.specs.declared.Effect.the-variants.{Keep, Ring, Select, Configure, Rarely}
+use Rattle.access.specs.declared.Rare.{Rare}
 use Rattle.records.proofs.Bytes.{length-answer}
 
 length-answered : (o : Out) → length (answered o) ≡ 16

@@ -1,6 +1,9 @@
 // A list of records replayed: layout, width, one record, the loop.
 // Accesses are decided on numbers, with table and memory lent; the state is changed in the loop, by an effect, so that
 // an access that reaches memory never copies it.
+use access::Decided;
+use access::Effect;
+use access::Rare;
 use gmch::Answer;
 use gmch::Board;
 use gmch::Map;
@@ -16,38 +19,8 @@ ghost use Rattle.gmch.specs.Smram.{smramError};
 ghost use Rattle.gmch.specs.Machine.{machine};
 ghost use Rattle.gmch.specs.Map.{Tom, Sized, mapIn};
 ghost use Rattle.gmch.specs.Replay.{runReply, coldTable, oneRecord};
-ghost use Rattle.replay.specs.Decide.{changed, stateOf, Decides};
+ghost use Rattle.access.specs.Decide.{changed, stateOf, Decides};
 ghost use Rattle.replay.specs.Flat.{Replays};
-
-mod access;
-
-// What a record asks of the state. The loop carries it out in place.
-pub enum Effect {
-    Keep,
-    // A parser run leaves this head and this interrupt identity.
-    Ring(u32, u32),
-    // CF8h is this.
-    Select(u32),
-    // A write of configuration registers: at device * 256 + register, width, value.
-    Configure(u32, u32, u32),
-    Rarely(Rare),
-}
-
-// What comes so rarely that the state may be copied.
-pub enum Rare {
-    // A write of a fence or of a memory-mapped register: offset, value.
-    Store(u32, u32),
-    // SMRAM's error bit is set.
-    Error,
-    // A cold start of a board of this kind.
-    Reset(u32),
-}
-
-// What a record answers, and what it asks of the state.
-pub struct Decided {
-    pub answer: Answer,
-    pub effect: Effect,
-}
 
 // ---- one record
 

@@ -1,5 +1,5 @@
 use borrow.Author.Needs.{needs}
-use Rattle.replay.specs.Decide.{changed}
+use Rattle.access.specs.Decide.{changed}
 use Rattle.replay.proofs.apply.Statement.{statement}
 use Rattle.replay.proofs.apply.Tie as tie
 

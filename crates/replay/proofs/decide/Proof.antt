@@ -3,9 +3,9 @@ use mathlib.Core.Path.{_∙_, ap}
 use mathlib.Core.Bool.{not}
 use Rattle.gmch.specs.Access.{targetOf}
 use Rattle.gmch.proofs.Choice.{flag}
-use Rattle.replay.specs.Decide.{changed, applied}
+use Rattle.access.specs.Decide.{changed, applied}
 use Rattle.replay.proofs.Laws.{malformed, a-run, a-reset, an-access, run-done, reset-done}
-use Rattle.replay.proofs.Bounds.{target-reachable}
+use Rattle.access.proofs.Bounds.{target-reachable}
 use Rattle.replay.proofs.decide.Statement.{statement}
 use Rattle.replay.proofs.decide.Tie as tie
 

@@ -9,7 +9,7 @@ use lib.ListN.{length}
 use Rattle.gmch.specs.Machine.{machine}
 use Rattle.gmch.specs.Map.{mapOf}
 use Rattle.replay.specs.Flat.{replayFrom}
-use Rattle.replay.proofs.Bounds.{ready}
+use Rattle.access.proofs.Bounds.{ready}
 use Rattle.replay.proofs.Loop.{Next, next, keep-is, ring-is, select-is, configure-0, configure-1, rare-is, turn, finished}
 use Rattle.replay.proofs.replay.Statement.{statement}
 use Rattle.replay.proofs.replay.Tie as tie

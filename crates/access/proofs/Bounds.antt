@@ -1,0 +1,70 @@
+-- The bytes that an access takes are there.
+use Prim.Native.Nat.{ℕ, _%_, _≤_}
+use mathlib.Core.Path.{_≡_, refl}
+use mathlib.Core.List.{List}
+use mathlib.Core.Bool.{Bool, true, false}
+use native.Mathlib.Omega.{arith}
+use lib.ListN.{length}
+use Rattle.gmch.specs.Records.{fitsWord}
+use Rattle.gmch.specs.Map.{Tom, Sized, mapFrom, mapOf, routeOf}
+use Rattle.gmch.specs.Access.{targetIn}
+use Rattle.gmch.specs.declared.Board.{Board}
+use Rattle.gmch.specs.declared.State.{State}
+use Rattle.gmch.specs.declared.Map.{Map}
+use Rattle.gmch.specs.declared.Access.{Access}
+use Rattle.gmch.specs.declared.Look.{Look}
+use Rattle.gmch.specs.declared.Target.{Target}
+use Rattle.gmch.specs.declared.Target.the-variants.{Refused}
+use Rattle.gmch.specs.declared.Route.{Route}
+use Rattle.gmch.proofs.Choice.{choices}
+use Rattle.gmch.proofs.Routing.{Safe, refused-safe, memory-safe, register-safe, hub-safe, error-safe, vga-safe, mapped-safe, sized, target-safe, SafeRoute, to-safe, registers-safe, offset-safe, route-safe}
+use Rattle.words.specs.Width.{Width}
+use Rattle.words.proofs.Width.{fits-width}
+use Rattle.access.specs.Decide.{Reachable, InWindow}
+
+-- ---- what a decision asks
+
+pub ready : (b : Board) (s : State) (table main : List ℕ) (m : Map) → m ≡ mapOf b s → Tom (b .tom) → length table ≡ 16384 → length main ≡ b .tom
+    → (m ≡ mapOf b s) × Sized m table × (length main ≡ m .tom)
+unfolding mapFrom
+ready b s table main m e z l k = (e, rw e (sized b s table z l), rw e k)
+
+-- ---- the window
+
+in-window : {tom smram n : ℕ} {a : Access} {r : Route} → n ≤ 0x4000000 → SafeRoute tom smram n a r → InWindow r
+in-window h (to-safe e) = tt
+in-window h registers-safe = tt
+in-window h (offset-safe o l k) = omega arith
+
+-- the route of an access that code 2 lets pass
+pub route-ready : (table : List ℕ) (m : Map) (a : Access) (r : Route) → Sized m table → fitsWord (a .width) (a .address) ≡ true
+    → r ≡ routeOf m a → Sized m table × InWindow r
+route-ready table m a r z f k =
+    let h = fits-width (a .width) (a .address) f .1 in
+    rw k (z, in-window (z .1) (route-safe m (z .0) a h (z .2)))
+
+-- ---- targets
+
+reachable : {tom smram : ℕ} {a : Access} {t : Target} → Tom tom → Width (a .width) → Safe tom smram a t → Reachable tom (a .width) t
+reachable z d refused-safe = tt
+reachable z d (memory-safe p l h n) = (d, omega arith)
+reachable z d (register-safe n k) = k
+reachable z d hub-safe = tt
+reachable z d error-safe = tt
+reachable z d vga-safe = tt
+reachable z d mapped-safe = tt
+
+module _ (m : Map) (cf8 : ℕ) (fences : List ℕ) (control : ℕ) (look : ℕ → Look) (kind : ℕ) (a : Access) where
+  abbrev t : Target
+  t = targetIn m cf8 fences control look kind a
+
+  misfit-refused : fitsWord (a .width) (a .address) ≡ false → t ≡ Refused 2
+  unfolding targetIn
+  misfit-refused e = simp (e, choices)
+
+  pub target-reachable : Tom (m .tom) → m .gmadr % 4 ≡ 0 → Reachable (m .tom) (a .width) t
+  target-reachable z g = by (fitsWord (a .width) (a .address)) refl
+    where
+      by : (f : Bool) → fitsWord (a .width) (a .address) ≡ f → Reachable (m .tom) (a .width) t
+      by true e = reachable z (fits-width (a .width) (a .address) e .0) (target-safe m cf8 fences control look kind a z g)
+      by false e = rw (misfit-refused e) tt

@@ -1,0 +1,67 @@
+use borrow.Author.Needs.{needs}
+use mathlib.Core.Path.{refl}
+use Rattle.gmch.specs.Choice.{pick}
+use Rattle.gmch.specs.Access.{act}
+use Rattle.access.specs.Decide.{changed, applied}
+use Rattle.access.proofs.Laws.{memory-done, mapped-done, register-done, register-sound, effect-sound}
+use Rattle.access.proofs.act.Statement.{statement}
+use Rattle.access.proofs.act.Tie as tie
+
+returns : tie.Need-returns
+returns c =
+    let t = c .before .before .before .before .t3 .given .1 in
+    rw (c .done3 .ensures, c .before .register-effect .ensures, t)
+    (λ p q. register-done _ _ _ _ _ _ (c .before .before .if1 .taken), register-sound _ _ _ (rw t at (c .before .before .before .before .before .before .before .before .pre .1)))
+
+returns-2 : tie.Need-returns-2
+unfolding applied
+returns-2 c =
+    let m = c .before .before .before .in-memory .ensures in
+    rw (c .done .ensures, c .before .before .before .before .before .before .t .given .1) (λ p q. memory-done _ _ _ _ _ _ _ _ (m .0) (m .1), tt)
+
+returns-3 : tie.Need-returns-3
+returns-3 c =
+    let m = c .before .before .before .before .at-mapped .ensures in
+    rw (c .done2 .ensures, c .before .store-effect .ensures, c .before .before .before .before .before .before .before .before .t2 .given .1)
+    (λ p q. mapped-done _ _ _ _ _ _ _ _ (m .0) (m .1), effect-sound _ _ _)
+
+returns-4 : tie.Need-returns-4
+unfolding act applied pick
+returns-4 c =
+    rw (c .done4 .ensures, c .before .before .before .before .t3 .given .1, c .before .before .if1 .left, c .before .register-value .ensures)
+    (λ p q. refl, tt)
+
+pub act-spec : {M : Type 1} → statement M
+act-spec =
+    tie.close
+    (tie.spec
+    (λ c. search needs)
+    (λ c κs. rw (c .before .before .t .given .1) at (c .before .before .before .before .before .before .pre .1))
+    (λ c κs. search needs)
+    (λ c. search needs)
+    (λ c κs. search needs)
+    (λ c κs. search needs)
+    (λ c κs. search needs)
+    (λ c. search needs)
+    (λ c κs. search needs)
+    (λ c κs. search needs)
+    returns
+    (λ c κs. rw (c .before .before .t3 .given .1) at (c .before .before .before .before .before .before .pre .1))
+    (λ c κs. search needs)
+    (λ c. search needs)
+    (λ c κs. search needs)
+    (λ c. search needs)
+    (λ c κs. search needs)
+    (λ c. search needs)
+    (λ c κs. search needs)
+    (λ c. search needs)
+    (λ c κs. search needs)
+    (λ c. search needs)
+    returns-2
+    (λ c. search needs)
+    returns-3
+    returns-4
+    (λ c. unfold act applied changed in rw (c .done5 .ensures, c .before .enum-told .given .1) (λ p q. refl, tt))
+    (λ c. unfold act applied in rw (c .done6 .ensures, c .before .enum-told2 .given .1) (λ p q. refl, tt))
+    (λ c. unfold act applied in rw (c .done7 .ensures, c .before .enum-told3 .given .1) (λ p q. refl, tt))
+    (λ c. unfold act applied in rw (c .done8 .ensures, c .before .enum-told4 .given .1) (λ p q. refl, tt)))
