@@ -1,6 +1,5 @@
-pub mod Both
 pub mod Bytes
-pub mod Every
 pub mod Fill
-pub mod Gather
+pub mod Fold
 pub mod Stored
+pub mod Table

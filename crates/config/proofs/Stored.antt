@@ -5,46 +5,39 @@ use mathlib.Core.Bool.{Bool, true, false, _||_}
 use Prim.Native.Nat.{ℕ, zero, suc, _+_, _-_, _*_, _/_, _%_, _<_, _≤_}
 use native.Mathlib.Nat.{sub-zero}
 use native.Mathlib.Omega.{arith}
-use borrow.Author.Tests.{lt-ltb, le-ltb, eqb-true}
+use borrow.Author.Tests.{lt-ltb, le-ltb}
 use lib.Dec.{eqb}
 use lib.ListN.{getD, set}
 use Rattle.gmch.specs.Choice.{pick, _and_, _or_, within}
 use Rattle.gmch.specs.Rows.{rows, rowIn, byteOf, masksOf}
 use Rattle.gmch.specs.Config.{withDev0, withDev1, withOnce, fixedAt, writableAt, newByte, writeByte, writeBytes, touches, configWrite}
 use Rattle.gmch.specs.declared.State.{State}
-use Rattle.gmch.proofs.Choice.{choices, and-left, and-right}
-use Rattle.config.specs.Word.{share, gathered, rowBits, fixedBits, bitsOf, newIn, writtenIn}
+use Rattle.gmch.proofs.Choice.{choices}
+use Rattle.config.specs.Word.{share, rowBits, fixedBits, bitsOf, newIn, writtenIn}
 use Rattle.config.specs.declared.Bits.{Bits}
-use Rattle.config.proofs.Both.{either}
-use Rattle.config.proofs.Every.{every, every-at}
+use Rattle.config.proofs.Table.{table, same-at}
 
 -- ---- a byte's bits of its word are its masks: a test over the 512 bytes
 
-stores : Bool → Bool → ℕ → Bool
-stores c e x =
-    eqb (byteOf (bitsOf c e (x / 4) .writable) (x % 4)) (pick ((eqb (x / 2) 0x96 and c) or (eqb (x / 2) 0x97 and e)) 0 (masksOf x .writable))
+fixed : Bool → Bool → ℕ → Bool
+fixed c e x = (eqb (x / 2) 0x96 and c) or (eqb (x / 2) 0x97 and e)
 
-clears : Bool → Bool → ℕ → Bool
-clears c e x = eqb (byteOf (bitsOf c e (x / 4) .clearing) (x % 4)) (masksOf x .clearing)
+all-stored : (c e : Bool)
+    → table (λ (x : ℕ). byteOf (bitsOf c e (x / 4) .writable) (x % 4)) 512 ≡ table (λ (x : ℕ). pick (fixed c e x) 0 (masksOf x .writable)) 512
+unfolding table fixed bitsOf rowBits fixedBits share rows masksOf rowIn pick within _and_ _or_
+all-stored true true = refl
+all-stored true false = refl
+all-stored false true = refl
+all-stored false false = refl
 
-all-right : (c e : Bool) → every (λ (x : ℕ). stores c e x and clears c e x) 512 ≡ true
-unfolding every stores clears bitsOf rowBits fixedBits gathered share rows masksOf rowIn pick within _and_ _or_
-all-right true true = refl
-all-right true false = refl
-all-right false true = refl
-all-right false false = refl
+all-cleared : table (λ (x : ℕ). byteOf (rowBits (x / 4) .clearing) (x % 4)) 512 ≡ table (λ (x : ℕ). masksOf x .clearing) 512
+unfolding table rowBits share rows masksOf rowIn pick within _and_
+all-cleared = refl
 
 new-byte-is : (s : State) (x w old v : ℕ) → x < 512 → x / 4 ≡ w → newIn (bitsOf (s .wrote2c) (s .wrote2e) w) x old v ≡ newByte s x old v
-unfolding stores clears newIn newByte writableAt fixedAt
+unfolding fixed bitsOf newIn newByte writableAt fixedAt
 new-byte-is s x w old v h q =
-    let c = s .wrote2c in
-    let e = s .wrote2e in
-    let t = every-at (λ (x : ℕ). stores c e x and clears c e x) 512 (all-right c e) x h in
-    rw (
-      ← q,
-      eqb-true (byteOf (bitsOf c e (x / 4) .writable) (x % 4)) _ (and-left (stores c e x) (clears c e x) t),
-      eqb-true (byteOf (bitsOf c e (x / 4) .clearing) (x % 4)) _ (and-right (stores c e x) (clears c e x) t),
-    )
+    rw (← q, same-at _ _ 512 (all-stored (s .wrote2c) (s .wrote2e)) x h, same-at _ _ 512 all-cleared x h)
 
 -- ---- the bytes of a write, all of one word, in the device that put puts back and whose first byte is base
 
@@ -63,8 +56,8 @@ written put base b w step (suc n) x v l o f u =
 module _ (s : State) (x n v : ℕ) (u : x % 4 + n ≤ 4) (b : Bits) (p : b ≡ bitsOf (s .wrote2c) (s .wrote2e) (x / 4)) where
   module _ (l : List ℕ) (c e : Bool) (q : c ≡ touches 0x12C x n) (r : e ≡ touches 0x12E x n) where
     flagged : (t : State) → t ≡ writeBytes s x n v → withOnce t (t .wrote2c || c) (t .wrote2e || e) ≡ configWrite s x n v
-    unfolding configWrite
-    flagged t k = rw (k, q, r) (simp either)
+    unfolding configWrite _or_
+    flagged t k = rw (k, q, r)
 
     pub stored-0 : x < 256 → l ≡ writtenIn b x (x % 256) n v (s .dev0) → withOnce (withDev0 s l) (s .wrote2c || c) (s .wrote2e || e) ≡ configWrite s x n v
     unfolding writeByte

@@ -1,6 +1,6 @@
 -- A write by the bits of an aligned word of four bytes, as code makes it.
 use Prim.Native.Nat.{ℕ, zero, suc, _+_, _-_, _*_, _/_, _%_, _^_}
-use mathlib.Core.List.{List, [], _∷_}
+use mathlib.Core.List.{List, foldl}
 use mathlib.Core.Bool.{Bool}
 use lib.ListN.{getD, set}
 use lib.Dec.{eqb}
@@ -16,14 +16,14 @@ use Rattle.config.specs.declared.Bits.{Bits}
 unfoldable pub share : ℕ → ℕ → ℕ → ℕ
 share n at w = pick (eqb (at / 4) w) (n * 2 ^ (8 * (at % 4)) % 2 ^ 32) 0
 
--- the number f of each row in the word w, beside p
-unfoldable pub gathered : (Row → ℕ) → ℕ → List Row → ℕ → ℕ
-gathered f p [] w = p
-gathered f p (r ∷ rs) w = gathered f (bitOr p (share (f r) (r .at) w)) rs w
+-- p with what a row's number has of the word w
+abbrev pub joined : (Row → ℕ) → ℕ → ℕ → Row → ℕ
+joined f w p r = bitOr p (share (f r) (r .at) w)
 
 -- what the rows say of the aligned word w
 unfoldable pub rowBits : ℕ → Bits
-rowBits w = record { writable = gathered (λ (r : Row). r .writable) 0 rows w; clearing = gathered (λ (r : Row). r .clearing) 0 rows w }
+rowBits w =
+    record { writable = foldl (joined (λ (r : Row). r .writable) w) 0 rows; clearing = foldl (joined (λ (r : Row). r .clearing) w) 0 rows }
 
 -- the bits of the write-once registers 2Ch and 2Eh of device 1 that have been written
 unfoldable pub fixedBits : Bool → Bool → ℕ → ℕ

@@ -58,10 +58,7 @@ pub fn is_touched(k: u32, x: u32, n: u32) -> bool
     requires { ⌜ (k < 512) × (x + n ≤ 512) ⌝ }
     ensures { λ r. ⌜ r ≡ touches k x n ⌝ }
 {
-    if x < k + 2 {
-        return k < x + n;
-    }
-    false
+    (x < k + 2) & (k < x + n)
 }
 
 // What the byte x of the two devices reads as: GMADR bit 25 reads 0 while the window is 64 MiB.

@@ -6,7 +6,7 @@ ghost use mathlib.Core.Path.{_≡_};
 ghost use mathlib.Core.Logic.{_⊎_};
 ghost use Prim.Native.Nat.{ℕ, _+_, _%_, _<_, _≤_};
 ghost use lib.Bits.{bitAnd};
-ghost use Rattle.gmch.specs.Config.{present, ours, portTarget, registerValue};
+ghost use Rattle.gmch.specs.Config.{ours, portTarget, registerValue};
 ghost use Rattle.gmch.specs.Replay.{coldStart};
 
 pub mod access;
@@ -46,33 +46,13 @@ pub fn cold_start(board: u32) -> State
     }
 }
 
-// Whether a device is there: device 0, and device 1 while GMS is not 00.
-fn is_present(smram: u32, device: u32) -> bool
-    ensures { λ r. ⌜ r ≡ present smram device ⌝ }
-{
-    if device == 0 {
-        return true;
-    }
-    if device == 1 {
-        return 0 < map::gms(smram);
-    }
-    false
-}
-
-// Whether CF8h is enabled and names one of our devices.
+// Whether CF8h is enabled and names one of our devices: device 0, and device 1 while GMS is not 00.
 fn is_ours(cf8: u32, smram: u32) -> bool
     ensures { λ r. ⌜ r ≡ ours cf8 smram ⌝ }
 {
-    if cf8 / 0x80000000 % 2 != 1 {
-        return false;
-    }
-    if cf8 / 65536 % 256 != 0 {
-        return false;
-    }
-    if cf8 / 256 % 8 != 0 {
-        return false;
-    }
-    is_present(smram, cf8 / 2048 % 32)
+    let device = cf8 / 2048 % 32;
+    let present = (device == 0) | ((device == 1) & (0 < map::gms(smram)));
+    (cf8 / 0x80000000 % 2 == 1) & ((cf8 / 65536 % 256 == 0) & ((cf8 / 256 % 8 == 0) & present))
 }
 
 // Where an access at a port ends: at CF8h, at one of our registers, or at the hub.

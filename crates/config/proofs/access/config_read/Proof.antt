@@ -8,9 +8,6 @@ use Rattle.gmch.specs.Config.{configRead}
 use Rattle.config.proofs.Bytes.{read-step, grows, word-fits}
 use Rattle.config.proofs.access.config_read.Statement.{statement}
 use Rattle.config.proofs.access.config_read.Tie as tie
-use Rattle.config.proofs.access.config_read.Reads as reads
-use Rattle.config.proofs.access.config_read.Lts as lts
-use Rattle.config.proofs.access.read_byte.Reads as read-byte-reads
 
 abbrev Inv-loop : tie.InvT-loop
 Inv-loop dev0 dev1 x n v₀ i₀ v i = (i ≤ n) × (v ≡ configRead dev0 dev1 (x + i) (n - i)) × (v < 256 ^ (n - i))

@@ -1,5 +1,6 @@
+use mathlib.Core.Path.{refl}
 use borrow.Author.Needs.{needs}
-use Rattle.gmch.proofs.Choice.{tests}
+use Rattle.gmch.specs.Choice.{_and_}
 use Rattle.gmch.specs.Config.{touches}
 use Rattle.config.proofs.access.is_touched.Statement.{statement}
 use Rattle.config.proofs.access.is_touched.Tie as tie
@@ -10,5 +11,4 @@ is-touched-spec =
     (tie.spec
     (λ c. search needs)
     (λ c. search needs)
-    (λ c. unfold touches in search tests)
-    (λ c. unfold touches in search tests))
+    (λ c. unfold touches _and_ in refl))

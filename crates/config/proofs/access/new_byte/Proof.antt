@@ -1,5 +1,4 @@
 use borrow.Author.Needs.{needs}
-use Prim.Native.Nat.{_%_}
 use Rattle.gmch.proofs.Choice.{tests}
 use Rattle.gmch.specs.Config.{merge}
 use Rattle.config.specs.Word.{newIn}

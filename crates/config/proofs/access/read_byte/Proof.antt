@@ -2,8 +2,8 @@ use borrow.Author.Needs.{needs}
 use mathlib.Core.Logic.{_≢_}
 use native.Mathlib.Omega.{arith}
 use Rattle.gmch.proofs.Choice.{tests, choices}
+use Rattle.gmch.specs.Choice.{_and_}
 use Rattle.gmch.specs.Config.{readByte}
-use Rattle.config.proofs.Both.{both}
 use Rattle.config.proofs.access.read_byte.Statement.{statement}
 use Rattle.config.proofs.access.read_byte.Tie as tie
 
@@ -21,5 +21,5 @@ read-byte-spec =
     (λ c. search needs)
     (λ c. search needs)
     (λ c. search needs)
-    (λ c. unfold readByte in simp (both, c .if2 .taken, choices) (search tests))
-    (λ c. unfold readByte in simp (both, c .if2 .left, choices) (search tests)))
+    (λ c. unfold readByte _and_ in simp (c .if2 .taken, choices) (search tests))
+    (λ c. unfold readByte _and_ in simp (c .if2 .left, choices) (search tests)))
