@@ -13,7 +13,7 @@ use Rattle.gmch.specs.Rows.{rows, rowIn, byteOf, masksOf}
 use Rattle.gmch.specs.Config.{withDev0, withDev1, withOnce, fixedAt, writableAt, newByte, writeByte, writeBytes, touches, configWrite}
 use Rattle.gmch.specs.declared.State.{State}
 use Rattle.gmch.proofs.Choice.{choices}
-use Rattle.config.specs.Word.{share, rowBits, fixedBits, bitsOf, newIn, writtenIn}
+use Rattle.config.specs.Word.{joined, rowBits, fixedBits, bitsOf, newIn, writtenIn}
 use Rattle.config.specs.declared.Bits.{Bits}
 use Rattle.config.proofs.Table.{table, same-at}
 
@@ -24,14 +24,14 @@ fixed c e x = (eqb (x / 2) 0x96 and c) or (eqb (x / 2) 0x97 and e)
 
 all-stored : (c e : Bool)
     → table (λ (x : ℕ). byteOf (bitsOf c e (x / 4) .writable) (x % 4)) 512 ≡ table (λ (x : ℕ). pick (fixed c e x) 0 (masksOf x .writable)) 512
-unfolding table fixed bitsOf rowBits fixedBits share rows masksOf rowIn pick within _and_ _or_
+unfolding table fixed bitsOf rowBits fixedBits joined rows masksOf rowIn pick within _and_ _or_
 all-stored true true = refl
 all-stored true false = refl
 all-stored false true = refl
 all-stored false false = refl
 
 all-cleared : table (λ (x : ℕ). byteOf (rowBits (x / 4) .clearing) (x % 4)) 512 ≡ table (λ (x : ℕ). masksOf x .clearing) 512
-unfolding table rowBits share rows masksOf rowIn pick within _and_
+unfolding table rowBits joined rows masksOf rowIn pick within _and_
 all-cleared = refl
 
 new-byte-is : (s : State) (x w old v : ℕ) → x < 512 → x / 4 ≡ w → newIn (bitsOf (s .wrote2c) (s .wrote2e) w) x old v ≡ newByte s x old v

@@ -12,18 +12,18 @@ use Rattle.gmch.specs.Config.{merge}
 use Rattle.gmch.specs.declared.Row.{Row}
 use Rattle.config.specs.declared.Bits.{Bits}
 
--- what a number n of the register at `at` has of the aligned word w
-unfoldable pub share : ℕ → ℕ → ℕ → ℕ
-share n at w = pick (eqb (at / 4) w) (n * 2 ^ (8 * (at % 4)) % 2 ^ 32) 0
+-- p, and what a number n of the register at `at` has of the aligned word w
+unfoldable pub joined : ℕ → ℕ → ℕ → ℕ → ℕ
+joined p n at w = pick (eqb (at / 4) w) (bitOr p (n * 2 ^ (8 * (at % 4)) % 2 ^ 32)) p
 
--- p with what a row's number has of the word w
-abbrev pub joined : (Row → ℕ) → ℕ → ℕ → Row → ℕ
-joined f w p r = bitOr p (share (f r) (r .at) w)
+-- the same of a row's number f
+abbrev pub joinedBy : (Row → ℕ) → ℕ → ℕ → Row → ℕ
+joinedBy f w p r = joined p (f r) (r .at) w
 
 -- what the rows say of the aligned word w
 unfoldable pub rowBits : ℕ → Bits
 rowBits w =
-    record { writable = foldl (joined (λ (r : Row). r .writable) w) 0 rows; clearing = foldl (joined (λ (r : Row). r .clearing) w) 0 rows }
+    record { writable = foldl (joinedBy (λ (r : Row). r .writable) w) 0 rows; clearing = foldl (joinedBy (λ (r : Row). r .clearing) w) 0 rows }
 
 -- the bits of the write-once registers 2Ch and 2Eh of device 1 that have been written
 unfoldable pub fixedBits : Bool → Bool → ℕ → ℕ

@@ -4,7 +4,7 @@ use gmch::Row;
 ghost use mathlib.Core.Path.{_≡_};
 ghost use Prim.Native.Nat.{ℕ, _*_, _<_};
 ghost use Rattle.gmch.specs.Rows.{defaultsFrom, idByte, coldBytes};
-ghost use Rattle.config.specs.Word.{share, rowBits, fixedBits, bitsOf};
+ghost use Rattle.config.specs.Word.{joined, rowBits, fixedBits, bitsOf};
 
 const ROWS: [Row; 24] = [
     // device 0: VID
@@ -241,14 +241,14 @@ pub fn cold_bytes(board: u32, device: u32) -> [u8; 256]
 
 // ---- what a write may change
 
-// What a number n of the register at `at` has of the aligned word w.
-fn share(n: u32, at: u32, w: u32) -> u32
-    ensures { λ r. ⌜ r ≡ share n at w ⌝ }
+// p, and what a number n of the register at `at` has of the aligned word w.
+fn joined(p: u32, n: u32, at: u32, w: u32) -> u32
+    ensures { λ r. ⌜ r ≡ joined p n at w ⌝ }
 {
     if at / 4 == w {
-        return n << (8 * (at % 4));
+        return p | n << (8 * (at % 4));
     }
-    0
+    p
 }
 
 // What the rows say of the aligned word w. Two loops: the compiler unrolls each, and the rows are then constants.
@@ -260,14 +260,14 @@ fn row_bits(w: u32) -> Bits
     let mut i: usize = 0;
     while i < 24 {
         let r = table[i];
-        p = p | share(r.writable, r.at, w);
+        p = joined(p, r.writable, r.at, w);
         i = i + 1;
     }
     let mut c: u32 = 0;
     let mut j: usize = 0;
     while j < 24 {
         let r = table[j];
-        c = c | share(r.clearing, r.at, w);
+        c = joined(c, r.clearing, r.at, w);
         j = j + 1;
     }
     Bits {

@@ -6,17 +6,17 @@ use native.Mathlib.Omega.{arith}
 use lib.ListN.{drop}
 use Rattle.gmch.specs.Rows.{rows}
 use Rattle.gmch.specs.declared.Row.{Row}
-use Rattle.config.specs.Word.{joined, rowBits}
+use Rattle.config.specs.Word.{joinedBy, rowBits}
 use Rattle.config.proofs.Fill.{zeroRow}
 use Rattle.config.proofs.Fold.{fold-more, fold-all}
 use Rattle.config.proofs.rows.row_bits.Statement.{statement}
 use Rattle.config.proofs.rows.row_bits.Tie as tie
 
 abbrev stores : ℕ → ℕ → Row → ℕ
-stores = joined (λ (r : Row). r .writable)
+stores = joinedBy (λ (r : Row). r .writable)
 
 abbrev clears : ℕ → ℕ → Row → ℕ
-clears = joined (λ (r : Row). r .clearing)
+clears = joinedBy (λ (r : Row). r .clearing)
 
 abbrev Inv-loop : tie.InvT-loop
 Inv-loop w table p₀ i₀ p i = foldl (stores w) p (drop i rows) ≡ foldl (stores w) 0 rows
@@ -34,13 +34,13 @@ loop-again : tie.Need-loop-again Inv-loop μ-loop Inv-loop2 μ-loop2
 unfolding rows
 loop-again c =
     let b = c .before .before .before in
-    rw (c .share .ensures) (fold-more (stores (b .before .args .w)) (b .loop .p) _ rows (b .loop .i) (b .loop .inv) zeroRow (omega arith))
+    rw (c .joined .ensures) (fold-more (stores (b .before .args .w)) (b .loop .p) _ rows (b .loop .i) (b .loop .inv) zeroRow (omega arith))
 
 loop2-again : tie.Need-loop2-again Inv-loop μ-loop Inv-loop2 μ-loop2
 unfolding rows
 loop2-again c =
     let b = c .before .before .before in
-    rw (c .share2 .ensures) (fold-more (clears (b .before .before .before .args .w)) (b .loop2 .c) _ rows (b .loop2 .j) (b .loop2 .inv) zeroRow (omega arith))
+    rw (c .joined2 .ensures) (fold-more (clears (b .before .before .before .args .w)) (b .loop2 .c) _ rows (b .loop2 .j) (b .loop2 .inv) zeroRow (omega arith))
 
 returns : tie.Need-returns Inv-loop μ-loop Inv-loop2 μ-loop2
 unfolding rows rowBits
