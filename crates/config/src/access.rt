@@ -1,5 +1,5 @@
 // Reads and writes of configuration bytes. A byte is named by x = device * 256 + register, and its callers
-// show that it is below 512. Bytes are taken from the state in place: passing it on would copy it.
+// show that it is below 512. The devices' bytes are lent: by value they would be copied.
 use crate::Bits;
 ghost use mathlib.Core.Path.{_≡_};
 ghost use Prim.Native.Nat.{ℕ, _+_, _%_, _<_, _≤_};
