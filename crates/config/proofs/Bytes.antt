@@ -8,7 +8,7 @@ use lib.ListN.{getD, set}
 use lib.Pow.{pow-add}
 use Rattle.gmch.specs.Config.{readByte, configRead}
 use Rattle.config.specs.Word.{newIn, writtenIn}
-use Rattle.config.specs.declared.Bits.{Bits}
+use Rattle.rows.specs.declared.Bits.{Bits}
 
 -- 2 ^ (8 * k), as code shifts, and 256 ^ k
 pub bits-of-bytes : (k : ℕ) → 2 ^ (8 * k) ≡ 256 ^ k

@@ -1,58 +1,24 @@
 -- A write by the bits of an aligned word is the definitions' write.
 use mathlib.Core.Path.{_≡_, refl}
 use mathlib.Core.List.{List}
-use mathlib.Core.Bool.{Bool, true, false, _||_}
+use mathlib.Core.Bool.{Bool, _||_}
 use Prim.Native.Nat.{ℕ, zero, suc, _+_, _-_, _*_, _/_, _%_, _<_, _≤_}
 use native.Mathlib.Nat.{sub-zero}
-use native.Mathlib.Decide.{ℕ-discrete}
 use native.Mathlib.Omega.{arith}
-use borrow.Author.Tests.{lt-ltb, le-ltb, ne-eqb}
-use lib.Dec.{eqb}
+use borrow.Author.Tests.{lt-ltb, le-ltb}
 use lib.ListN.{getD, set}
-use Rattle.gmch.specs.Choice.{pick, _and_, _or_, within}
-use Rattle.gmch.specs.Rows.{rows, rowIn, byteOf, masksOf}
-use Rattle.gmch.specs.Config.{withDev0, withDev1, withOnce, fixedAt, writableAt, newByte, writeByte, writeBytes, touches, configWrite}
+use Rattle.gmch.specs.Choice.{_or_}
+use Rattle.gmch.specs.Config.{withDev0, withDev1, withOnce, newByte, writeByte, writeBytes, touches, configWrite}
 use Rattle.gmch.specs.declared.State.{State}
 use Rattle.gmch.proofs.Choice.{choices}
-use Rattle.config.specs.Word.{joined, rowBits, fixedBits, bitsOf, newIn, writtenIn}
-use Rattle.config.specs.declared.Bits.{Bits}
-use Rattle.config.proofs.Table.{table, same-at}
-
--- ---- a byte's bits of its word are its masks: a test over the 512 bytes
-
-stored : Bool → Bool → ℕ → ℕ
-stored c e x = byteOf (bitsOf c e (x / 4) .writable) (x % 4)
-
-storable : Bool → Bool → ℕ → ℕ
-storable c e x = pick ((eqb (x / 2) 0x96 and c) or (eqb (x / 2) 0x97 and e)) 0 (masksOf x .writable)
-
--- whether 2Ch and 2Eh have been written counts in their word alone, so the flags need not be known in the others
-others : (c e : Bool)
-    → table (λ (x : ℕ). pick (eqb (x / 4) 0x4B) 0 (stored c e x)) 512 ≡ table (λ (x : ℕ). pick (eqb (x / 4) 0x4B) 0 (storable c e x)) 512
-unfolding table stored storable bitsOf rowBits fixedBits joined rows masksOf rowIn pick within _and_ _or_
-others c e = refl
-
-once : (c e : Bool) → table (λ (k : ℕ). stored c e (0x12C + k)) 4 ≡ table (λ (k : ℕ). storable c e (0x12C + k)) 4
-unfolding table stored storable bitsOf rowBits fixedBits joined rows masksOf rowIn pick within _and_ _or_
-once true true = refl
-once true false = refl
-once false true = refl
-once false false = refl
-
-stored-bits : (c e : Bool) (x : ℕ) → x < 512 → stored c e x ≡ storable c e x
-stored-bits c e x h =
-    elim (ℕ-discrete (x / 4) 0x4B) [
-      | yes q ↦ let i : 0x12C + (x - 0x12C) ≡ x = omega arith in rw i at (same-at _ _ 4 (once c e) (x - 0x12C) (omega arith))
-      | no q ↦ simp (ne-eqb _ _ q, choices) at (same-at _ _ 512 (others c e) x h)
-    ]
-
-cleared-bits : table (λ (x : ℕ). byteOf (rowBits (x / 4) .clearing) (x % 4)) 512 ≡ table (λ (x : ℕ). masksOf x .clearing) 512
-unfolding table rowBits joined rows masksOf rowIn pick within _and_
-cleared-bits = refl
+use Rattle.rows.specs.Word.{bitsOf}
+use Rattle.rows.specs.declared.Bits.{Bits}
+use Rattle.rows.proofs.Gathered.{writable-bits, clearing-bits}
+use Rattle.config.specs.Word.{newIn, writtenIn}
 
 new-byte-is : (s : State) (x w old v : ℕ) → x < 512 → x / 4 ≡ w → newIn (bitsOf (s .wrote2c) (s .wrote2e) w) x old v ≡ newByte s x old v
-unfolding stored storable bitsOf newIn newByte writableAt fixedAt
-new-byte-is s x w old v h q = rw (← q, stored-bits (s .wrote2c) (s .wrote2e) x h, same-at _ _ 512 cleared-bits x h)
+unfolding newIn newByte
+new-byte-is s x w old v h q = rw (← q, writable-bits s x h, clearing-bits (s .wrote2c) (s .wrote2e) x h)
 
 -- ---- the bytes of a write, all of one word, in the device that put puts back and whose first byte is base
 

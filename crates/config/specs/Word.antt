@@ -1,39 +1,13 @@
 -- A write by the bits of an aligned word of four bytes, as code makes it.
-use Prim.Native.Nat.{ℕ, zero, suc, _+_, _-_, _*_, _/_, _%_, _^_}
-use mathlib.Core.List.{List, foldl}
-use mathlib.Core.Bool.{Bool}
+use Prim.Native.Nat.{ℕ, zero, suc, _+_, _/_, _%_}
+use mathlib.Core.List.{List}
 use lib.ListN.{getD, set}
 use lib.Dec.{eqb}
-use lib.Bits.{bitAnd, bitOr}
 use Rattle.gmch.specs.Choice.{pick}
 use Rattle.gmch.specs.Smram.{smramWritten}
-use Rattle.gmch.specs.Rows.{rows, byteOf}
+use Rattle.gmch.specs.Rows.{byteOf}
 use Rattle.gmch.specs.Config.{merge}
-use Rattle.gmch.specs.declared.Row.{Row}
-use Rattle.config.specs.declared.Bits.{Bits}
-
--- p, and what a number n of the register at `at` has of the aligned word w
-unfoldable pub joined : ℕ → ℕ → ℕ → ℕ → ℕ
-joined p n at w = pick (eqb (at / 4) w) (bitOr p (n * 2 ^ (8 * (at % 4)) % 2 ^ 32)) p
-
--- the same of a row's number f
-abbrev pub joinedBy : (Row → ℕ) → ℕ → ℕ → Row → ℕ
-joinedBy f w p r = joined p (f r) (r .at) w
-
--- what the rows say of the aligned word w
-unfoldable pub rowBits : ℕ → Bits
-rowBits w =
-    record { writable = foldl (joinedBy (λ (r : Row). r .writable) w) 0 rows; clearing = foldl (joinedBy (λ (r : Row). r .clearing) w) 0 rows }
-
--- the bits of the write-once registers 2Ch and 2Eh of device 1 that have been written
-unfoldable pub fixedBits : Bool → Bool → ℕ → ℕ
-fixedBits c e w = pick (eqb w 0x4B) (pick c (pick e 0xFFFFFFFF 0xFFFF) (pick e 0xFFFF0000 0)) 0
-
--- what a write may change now of the aligned word w
-unfoldable pub bitsOf : Bool → Bool → ℕ → Bits
-bitsOf c e w = record { writable = bitAnd (rowBits w .writable) (2 ^ 32 - 1 - fixedBits c e w); clearing = rowBits w .clearing }
-
--- ---- a byte, and the bytes of a device
+use Rattle.rows.specs.declared.Bits.{Bits}
 
 -- what a write of v leaves in the byte x, which was old
 unfoldable pub newIn : Bits → ℕ → ℕ → ℕ → ℕ

@@ -1,8 +1,8 @@
 // Reads and writes of configuration bytes. A byte is named by x = device * 256 + register, and its callers
 // show that it is below 512. The devices' bytes are lent: by value they would be copied.
-use crate::Bits;
+use rows::Bits;
 ghost use mathlib.Core.Path.{_≡_};
-ghost use Prim.Native.Nat.{ℕ, _+_, _%_, _<_, _≤_};
+ghost use Prim.Native.Nat.{_+_, _%_, _<_, _≤_};
 ghost use Rattle.gmch.specs.Smram.{smramWritten};
 ghost use Rattle.gmch.specs.Config.{touches, readByte, configRead};
 ghost use Rattle.config.specs.Word.{newIn, writtenIn};

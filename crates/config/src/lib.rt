@@ -4,19 +4,12 @@ use gmch::State;
 use gmch::Target;
 ghost use mathlib.Core.Path.{_≡_};
 ghost use mathlib.Core.Logic.{_⊎_};
-ghost use Prim.Native.Nat.{ℕ, _+_, _%_, _<_, _≤_};
+ghost use Prim.Native.Nat.{_+_, _%_, _<_, _≤_};
 ghost use lib.Bits.{bitAnd};
 ghost use Rattle.gmch.specs.Config.{ours, portTarget, registerValue};
 ghost use Rattle.gmch.specs.Replay.{coldStart};
 
 pub mod access;
-pub mod rows;
-
-// What a write may change of an aligned word of four bytes: the bits that it stores, and those that a written 1 clears.
-pub struct Bits {
-    pub writable: u32,
-    pub clearing: u32,
-}
 
 // The state at a cold start.
 pub fn cold_start(board: u32) -> State

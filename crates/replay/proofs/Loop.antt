@@ -19,8 +19,9 @@ use Rattle.gmch.specs.declared.Board.{Board}
 use Rattle.gmch.specs.declared.State.{State}
 use Rattle.gmch.specs.declared.Map.{Map}
 use Rattle.gmch.specs.declared.Record.{Record}
-use Rattle.config.specs.Word.{bitsOf, writtenIn}
-use Rattle.config.specs.declared.Bits.{Bits}
+use Rattle.rows.specs.Word.{bitsOf}
+use Rattle.rows.specs.declared.Bits.{Bits}
+use Rattle.config.specs.Word.{writtenIn}
 use Rattle.config.proofs.Stored.{stored-0, stored-1}
 use Rattle.access.specs.Decide.{Sound, changed, applied, carried}
 use Rattle.replay.specs.Flat.{Flat, recordAt, replayFrom, Replays}

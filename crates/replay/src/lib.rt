@@ -156,7 +156,7 @@ pub fn replay(
                 s.cf8 = v;
             }
             Effect::Configure(n, width, v) => {
-                let bits = config::rows::bits_of(n / 4, s.wrote2c, s.wrote2e);
+                let bits = rows::bits_of(n / 4, s.wrote2c, s.wrote2e);
                 let wrote2c = config::access::is_touched(0x12C, n, width);
                 let wrote2e = config::access::is_touched(0x12E, n, width);
                 if n < 256 {

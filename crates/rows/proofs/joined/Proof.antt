@@ -1,8 +1,8 @@
 use borrow.Author.Needs.{needs}
 use Rattle.gmch.proofs.Choice.{tests}
-use Rattle.config.specs.Word.{joined}
-use Rattle.config.proofs.rows.joined.Statement.{statement}
-use Rattle.config.proofs.rows.joined.Tie as tie
+use Rattle.rows.specs.Word.{joined}
+use Rattle.rows.proofs.joined.Statement.{statement}
+use Rattle.rows.proofs.joined.Tie as tie
 
 pub joined-spec : {M : Type 1} → statement M
 joined-spec =

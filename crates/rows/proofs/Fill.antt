@@ -16,7 +16,7 @@ use Rattle.gmch.proofs.Choice.{pick-elim}
 use Rattle.gmch.proofs.Words.{length-storeLe}
 use Rattle.words.specs.Width.{Width}
 use Rattle.words.proofs.Width.{fits-width}
-use Rattle.config.proofs.Table.{table, same-at}
+use Rattle.rows.proofs.Table.{table, same-at}
 
 -- what is read past the end of the rows
 abbrev pub zeroRow : Row

@@ -2,8 +2,8 @@ use borrow.Author.Needs.{needs}
 use native.Mathlib.Nat.{add-zero}
 use Rattle.gmch.proofs.Choice.{tests}
 use Rattle.gmch.specs.Rows.{idByte}
-use Rattle.config.proofs.rows.id_byte.Statement.{statement}
-use Rattle.config.proofs.rows.id_byte.Tie as tie
+use Rattle.rows.proofs.id_byte.Statement.{statement}
+use Rattle.rows.proofs.id_byte.Tie as tie
 
 pub id-byte-spec : {M : Type 1} → statement M
 id-byte-spec =

@@ -6,11 +6,11 @@ use native.Mathlib.Omega.{arith}
 use lib.ListN.{drop}
 use Rattle.gmch.specs.Rows.{rows}
 use Rattle.gmch.specs.declared.Row.{Row}
-use Rattle.config.specs.Word.{joinedBy, rowBits}
-use Rattle.config.proofs.Fill.{zeroRow}
-use Rattle.config.proofs.Fold.{fold-more, fold-all}
-use Rattle.config.proofs.rows.row_bits.Statement.{statement}
-use Rattle.config.proofs.rows.row_bits.Tie as tie
+use Rattle.rows.specs.Word.{joinedBy, rowBits}
+use Rattle.rows.proofs.Fill.{zeroRow}
+use Rattle.rows.proofs.Fold.{fold-more, fold-all}
+use Rattle.rows.proofs.row_bits.Statement.{statement}
+use Rattle.rows.proofs.row_bits.Tie as tie
 
 abbrev stores : ℕ → ℕ → Row → ℕ
 stores = joinedBy (λ (r : Row). r .writable)

@@ -1,10 +1,15 @@
 // The register rows of document 01: the bytes at a cold start, and what a write may change.
-use crate::Bits;
 use gmch::Row;
 ghost use mathlib.Core.Path.{_≡_};
-ghost use Prim.Native.Nat.{ℕ, _*_, _<_};
+ghost use Prim.Native.Nat.{_*_, _<_};
 ghost use Rattle.gmch.specs.Rows.{defaultsFrom, idByte, coldBytes};
-ghost use Rattle.config.specs.Word.{joined, rowBits, fixedBits, bitsOf};
+ghost use Rattle.rows.specs.Word.{joined, rowBits, fixedBits, bitsOf};
+
+// What a write may change of an aligned word of four bytes: the bits that it stores, and those that a written 1 clears.
+pub struct Bits {
+    pub writable: u32,
+    pub clearing: u32,
+}
 
 const ROWS: [Row; 24] = [
     // device 0: VID

@@ -8,10 +8,10 @@ use lib.ListN.{length, drop, replicate}
 use borrow.Author.Tests.{eq-eqb, ne-eqb}
 use Rattle.gmch.specs.Rows.{rows}
 use Rattle.gmch.proofs.Choice.{pick-true, pick-false}
-use Rattle.config.proofs.Fill.{zeroRow, rowAt, filledBy, length-filled, filled-defaults, row-fits}
-use Rattle.config.proofs.Fold.{fold-more, fold-all}
-use Rattle.config.proofs.rows.default_bytes.Statement.{statement}
-use Rattle.config.proofs.rows.default_bytes.Tie as tie
+use Rattle.rows.proofs.Fill.{zeroRow, rowAt, filledBy, length-filled, filled-defaults, row-fits}
+use Rattle.rows.proofs.Fold.{fold-more, fold-all}
+use Rattle.rows.proofs.default_bytes.Statement.{statement}
+use Rattle.rows.proofs.default_bytes.Tie as tie
 
 abbrev Inv-loop : tie.InvT-loop
 Inv-loop device table a₀ i₀ a i = (length a ≡ 256) × (foldl (filledBy device) a (drop i rows) ≡ foldl (filledBy device) (replicate 256 0) rows)

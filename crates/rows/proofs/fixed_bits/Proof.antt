@@ -1,7 +1,7 @@
 use Rattle.gmch.proofs.Choice.{tests}
-use Rattle.config.specs.Word.{fixedBits}
-use Rattle.config.proofs.rows.fixed_bits.Statement.{statement}
-use Rattle.config.proofs.rows.fixed_bits.Tie as tie
+use Rattle.rows.specs.Word.{fixedBits}
+use Rattle.rows.proofs.fixed_bits.Statement.{statement}
+use Rattle.rows.proofs.fixed_bits.Tie as tie
 
 pub fixed-bits-spec : {M : Type 1} → statement M
 fixed-bits-spec =

@@ -1,7 +1,7 @@
 use borrow.Author.Needs.{needs}
 use Rattle.gmch.specs.Rows.{coldBytes}
-use Rattle.config.proofs.rows.cold_bytes.Statement.{statement}
-use Rattle.config.proofs.rows.cold_bytes.Tie as tie
+use Rattle.rows.proofs.cold_bytes.Statement.{statement}
+use Rattle.rows.proofs.cold_bytes.Tie as tie
 
 pub cold-bytes-spec : {M : Type 1} → statement M
 cold-bytes-spec =

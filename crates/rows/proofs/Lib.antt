@@ -1,0 +1,4 @@
+pub mod Fill
+pub mod Fold
+pub mod Gathered
+pub mod Table
