@@ -7,8 +7,8 @@ use mathlib.Core.Bool.{Bool, true, false}
 use native.Mathlib.Omega.{arith}
 use lib.Dec.{eqb}
 use borrow.Author.Tests.{ne-eqb, eqb-false, le-ltb}
-use Rattle.gmch.specs.Choice.{pick, within}
-use Rattle.gmch.specs.Words.{loadLe, storeLe}
+use Rattle.gmch.specs.Choice.{pick}
+use Rattle.gmch.specs.Words.{within, loadLe, storeLe}
 use Rattle.gmch.specs.Records.{reply}
 use Rattle.gmch.specs.Config.{Placed, registerWritten}
 use Rattle.gmch.specs.Machine.{Machine, machine}
@@ -18,7 +18,8 @@ use Rattle.gmch.specs.declared.State.{State}
 use Rattle.gmch.specs.declared.Access.{Access}
 use Rattle.gmch.specs.declared.Answer.{Answer}
 use Rattle.gmch.specs.declared.Target.the-variants.{Memory, Register, Mapped}
-use Rattle.gmch.proofs.Choice.{choices, pick-elim, within-from}
+use Rattle.gmch.proofs.Choice.{choices, pick-elim}
+use Rattle.gmch.proofs.Words.{within-from}
 use Rattle.access.specs.Decide.{Sound, changed, applied, storeEffect, registerEffect}
 
 abbrev pub out : State → List ℕ → List ℕ → Answer → Out

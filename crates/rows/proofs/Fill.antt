@@ -7,8 +7,8 @@ use native.Mathlib.Omega.{arith}
 use borrow.Author.Tests.{leb-true}
 use lib.Dec.{leb, eqb}
 use lib.ListN.{length, getD, replicate}
-use Rattle.gmch.specs.Choice.{pick, _and_, _or_, within}
-use Rattle.gmch.specs.Words.{storeLe}
+use Rattle.gmch.specs.Choice.{pick, _and_, _or_}
+use Rattle.gmch.specs.Words.{within, storeLe}
 use Rattle.gmch.specs.Records.{fitsWord}
 use Rattle.gmch.specs.Rows.{row, rows, rowIn, masksOf, defaultsFrom}
 use Rattle.gmch.specs.declared.Row.{Row}

@@ -6,7 +6,8 @@ use native.Mathlib.Decide.{ℕ-discrete}
 use native.Mathlib.Omega.{arith}
 use borrow.Author.Tests.{ne-eqb}
 use lib.Dec.{eqb}
-use Rattle.gmch.specs.Choice.{pick, _and_, _or_, within}
+use Rattle.gmch.specs.Choice.{pick, _and_, _or_}
+use Rattle.gmch.specs.Words.{within}
 use Rattle.gmch.specs.Rows.{rows, rowIn, byteOf, masksOf}
 use Rattle.gmch.specs.Config.{fixedAt, writableAt}
 use Rattle.gmch.specs.declared.State.{State}

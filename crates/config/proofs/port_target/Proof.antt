@@ -1,5 +1,6 @@
 use borrow.Author.Needs.{needs}
-use Rattle.gmch.specs.Choice.{within, _and_}
+use Rattle.gmch.specs.Choice.{_and_}
+use Rattle.gmch.specs.Words.{within}
 use Rattle.gmch.proofs.Choice.{choices}
 use Rattle.gmch.specs.Config.{portTarget}
 use Rattle.config.proofs.port_target.Statement.{statement}

@@ -2,7 +2,7 @@
 use mathlib.Core.Path.{refl}
 use borrow.Author.Needs.{needs}
 use native.Mathlib.Omega.{arith}
-use Rattle.gmch.proofs.Choice.{within-from, within-to}
+use Rattle.gmch.proofs.Words.{within-from, within-to}
 use Rattle.gmch.specs.Mapped.{isEntry}
 use Rattle.mapped.proofs.entry_number.Statement.{statement}
 use Rattle.mapped.proofs.entry_number.Tie as tie
