@@ -1,7 +1,6 @@
 -- The replay over flat bytes is that of the definitions.
-use Prim.Native.Nat.{ℕ, zero, suc, _+_, _-_, _*_, _/_, _%_, _≤_, _<_}
-use mathlib.Core.Path.{_≡_, refl, sym, ap, subst, _∙_}
-use mathlib.Core.Bool.{Bool, _||_}
+use Prim.Native.Nat.{ℕ, zero, suc, _+_, _-_, _*_, _/_, _≤_, _<_}
+use mathlib.Core.Path.{_≡_, refl, sym, ap, _∙_}
 use mathlib.Core.List.{List, _++_, append-assoc, append-nil}
 use native.Mathlib.Omega.{arith}
 use lib.ListN.{length, take, drop, length-append}
@@ -9,7 +8,7 @@ use lib.Seq.{sets, sets-eq, length-sets, drop-drop, length-take-le, take-at, tak
 use Rattle.gmch.specs.Records.{answerBytes}
 use Rattle.gmch.specs.Mapped.{lineOf}
 use Rattle.gmch.specs.Ring.{withHead}
-use Rattle.gmch.specs.Config.{withCf8, withDev0, withDev1, withOnce, withRegs, touches}
+use Rattle.gmch.specs.Config.{withCf8, withRegs, configWrite}
 use Rattle.gmch.specs.Machine.{Machine, machine}
 use Rattle.gmch.specs.Map.{mapOf}
 use Rattle.gmch.specs.Access.{Out}
@@ -19,11 +18,7 @@ use Rattle.gmch.specs.declared.Board.{Board}
 use Rattle.gmch.specs.declared.State.{State}
 use Rattle.gmch.specs.declared.Map.{Map}
 use Rattle.gmch.specs.declared.Record.{Record}
-use Rattle.rows.specs.Word.{bitsOf}
-use Rattle.rows.specs.declared.Bits.{Bits}
-use Rattle.config.specs.Word.{writtenIn}
-use Rattle.config.proofs.Stored.{stored-0, stored-1}
-use Rattle.access.specs.Decide.{Sound, changed, applied, carried}
+use Rattle.access.specs.Decide.{changed, applied, carried}
 use Rattle.replay.specs.Flat.{Flat, recordAt, replayFrom, Replays}
 use Rattle.access.specs.declared.Decided.{Decided}
 use Rattle.access.specs.declared.Effect.{Effect}
@@ -115,20 +110,9 @@ pub rare-is : (s : State) (e : Effect) (x : Rare) → e ≡ Rarely x → changed
 unfolding applied
 rare-is s e x h = rw h
 
--- a configuration write: the bytes of the device that it names, then the flags
-module _ (s : State) (e : Effect) (n width v : ℕ) (h : e ≡ Configure n width v) (sound : Sound e) (bits : Bits)
-    (p : bits ≡ bitsOf (s .wrote2c) (s .wrote2e) (n / 4)) (l : List ℕ) (c d : Bool) (q : c ≡ touches 0x12C n width) (r : d ≡ touches 0x12E n width) where
-  pub configure-0 : n < 256 → l ≡ writtenIn bits n (n % 256) width v (s .dev0) → withOnce (withDev0 s l) (s .wrote2c || c) (s .wrote2e || d) ≡ applied s e
-  unfolding applied
-  configure-0 k m =
-      let u : Sound (Configure n width v) = subst (λ (x : Effect). Sound x) h sound in
-      rw h (stored-0 s n width v (u .1) bits p l c d q r k m)
-
-  pub configure-1 : 256 ≤ n → l ≡ writtenIn bits n (n % 256) width v (s .dev1) → withOnce (withDev1 s l) (s .wrote2c || c) (s .wrote2e || d) ≡ applied s e
-  unfolding applied
-  configure-1 k m =
-      let u : Sound (Configure n width v) = subst (λ (x : Effect). Sound x) h sound in
-      rw h (stored-1 s n width v (u .1) bits p l c d q r k (u .0) m)
+pub configure-is : (s : State) (e : Effect) (n width v : ℕ) → e ≡ Configure n width v → configWrite s n width v ≡ applied s e
+unfolding applied
+configure-is s e n width v h = rw h
 
 pub ring-is : (s : State) (e : Effect) (head identity : ℕ) → e ≡ Ring head identity → withRegs s (withHead (s .regs) head identity) ≡ applied s e
 unfolding applied

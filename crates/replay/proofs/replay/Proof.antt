@@ -8,9 +8,10 @@ use borrow.Author.Needs.{needs}
 use lib.ListN.{length}
 use Rattle.gmch.specs.Machine.{machine}
 use Rattle.gmch.specs.Map.{mapOf}
+use Rattle.config.proofs.Stored.{stored-0, stored-1}
 use Rattle.replay.specs.Flat.{replayFrom}
 use Rattle.access.proofs.Bounds.{ready}
-use Rattle.replay.proofs.Loop.{Next, next, keep-is, ring-is, select-is, configure-0, configure-1, rare-is, turn, finished}
+use Rattle.replay.proofs.Loop.{Next, next, keep-is, ring-is, select-is, configure-is, rare-is, turn, finished}
 use Rattle.replay.proofs.replay.Statement.{statement}
 use Rattle.replay.proofs.replay.Tie as tie
 
@@ -51,11 +52,14 @@ loop-again c =
     ⊎-elim (λ w. next _ _ _ (w .2) (w .3) (keep-is _ _ (w .1 .given .1)) (h .5)) (λ k.
     ⊎-elim (λ w. next _ _ _ (w .5) (w .6) (ring-is _ _ _ _ (w .1 .given .1)) (h .5)) (λ k.
     ⊎-elim (λ w. next _ _ _ (w .3) (w .4) (select-is _ _ _ (w .1 .given .1)) (h .5)) (λ k.
-    ⊎-elim (λ w. next _ _ _ (w .11) (w .12)
+    ⊎-elim (λ w.
+    let e = w .1 .given .1 in
+    let u = rw e at (d .ensures .1) in
+    next _ _ _ (w .11) (w .12)
     (⊎-elim
-    (λ v. rw (v .3) (configure-0 _ _ _ _ _ (w .1 .given .1) (d .ensures .1) _ (w .3 .ensures) _ _ _ (w .4 .ensures) (w .5 .ensures) (v .0 .taken) (v .2 .ensures)))
-    (λ v. rw (v .3) (configure-1 _ _ _ _ _ (w .1 .given .1) (d .ensures .1) _ (w .3 .ensures) _ _ _ (w .4 .ensures) (w .5 .ensures) (v .0 .left) (v .2 .ensures)))
-    (w .6 .came)) (w .10 .ensures)) (λ w.
+    (λ v. rw (v .3) (stored-0 _ _ _ _ (u .1) _ (w .3 .ensures) _ _ _ (w .4 .ensures) (w .5 .ensures) (v .0 .taken) (v .2 .ensures)))
+    (λ v. rw (v .3) (stored-1 _ _ _ _ (u .1) _ (w .3 .ensures) _ _ _ (w .4 .ensures) (w .5 .ensures) (v .0 .left) (u .0) (v .2 .ensures)))
+    (w .6 .came) ∙ configure-is _ _ _ _ _ e) (w .10 .ensures)) (λ w.
     next _ _ _ (w .8) (w .9) (w .3 .ensures ∙ rare-is _ _ _ (w .1 .given .1)) (w .7 .ensures)) k) k) k) (m .came) in
     let t = c .before .before .before .before .before .before .before .before .before .before .before .before .before .before .before .before .before .before .before .before .loop-test in (
       omega arith,
