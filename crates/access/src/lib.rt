@@ -22,7 +22,7 @@ ghost use Rattle.gmch.specs.Access.{resolved, targetIn, act};
 ghost use Rattle.access.specs.Decide.{Reachable, InWindow, storeEffect, registerEffect, stateOf, Decides};
 ghost use Rattle.words.specs.Width.{Width};
 
-// What a record asks of the state. The loop carries it out in place.
+// What a record asks of the state. The replay's loop carries it out, in place where it comes often.
 pub enum Effect {
     Keep,
     // A parser run leaves this head and this interrupt identity.

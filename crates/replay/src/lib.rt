@@ -1,6 +1,6 @@
-// A list of records replayed: layout, width, one record, the loop.
-// Accesses are decided on numbers, with table and memory lent; the state is changed in the loop, by an effect, so that
-// an access that reaches memory never copies it.
+// One record of any content, and a list of records replayed.
+// A record is decided on the parts of the state, with table and memory lent; the state is changed in the loop, by an effect,
+// so that an access that reaches memory never copies it.
 use access::Decided;
 use access::Effect;
 use access::Rare;
