@@ -1,53 +1,162 @@
-//! The call to the proved model: the only unsafe code of this package.
+//! The call to the proved model: the only unsafe code of the library.
+//!
+//! The call needs 72 KiB of stack, most of it for the translation table, which it keeps there. It makes
+//! no other memory, keeps nothing between calls, and calls on different memories may run side by side.
 
-use crate::record::Refusal;
+use crate::board::Board;
+use crate::record::{self, Answer, Record, MAX_RECORDS, RECORD_BYTES};
 use std::fmt;
 
-/// The call refused its arguments with code 1 and touched neither memory nor answers.
+/// Which argument of a call is wrong. The call gives code 1 for all of them and touches neither memory
+/// nor answers.
+///
+/// ```
+/// use mitrophel::{replay, Board, WrongArgument};
+///
+/// let wrong = replay(Board::I82810, &mut [0; 4096], &[], &mut []).unwrap_err();
+/// assert_eq!(wrong, WrongArgument::Memory { bytes: 4096 });
+/// assert_eq!(wrong.to_string(), "memory: expected a multiple of 8 MiB from 8 to 512 MiB, found 4096 bytes");
+/// ```
 #[derive(Clone, Copy, Debug, PartialEq, Eq)]
-pub struct Refused;
+pub enum WrongArgument {
+    /// The memory's length is no multiple of 8 MiB from 8 to 512 MiB.
+    Memory {
+        /// Its length.
+        bytes: usize,
+    },
+    /// The records' length is no multiple of 16, or they are more than 65,535.
+    Records {
+        /// Their length.
+        bytes: usize,
+    },
+    /// The answers' length is not the records'.
+    Answers {
+        /// Their length.
+        bytes: usize,
+        /// The records' length.
+        expected: usize,
+    },
+}
 
-impl fmt::Display for Refused {
-    fn fmt(&self, f: &mut fmt::Formatter<'_>) -> fmt::Result {
-        Refusal::Arguments.fmt(f)
+impl WrongArgument {
+    /// The first argument that the call would refuse.
+    fn of(memory: usize, records: usize, answers: usize) -> Option<WrongArgument> {
+        if !is_memory_length(memory) {
+            return Some(WrongArgument::Memory { bytes: memory });
+        }
+        if !records.is_multiple_of(RECORD_BYTES) || records / RECORD_BYTES > MAX_RECORDS {
+            return Some(WrongArgument::Records { bytes: records });
+        }
+        (answers != records).then_some(WrongArgument::Answers { bytes: answers, expected: records })
     }
 }
 
-impl std::error::Error for Refused {}
+impl fmt::Display for WrongArgument {
+    fn fmt(&self, f: &mut fmt::Formatter<'_>) -> fmt::Result {
+        match *self {
+            WrongArgument::Memory { bytes } => {
+                write!(f, "memory: expected a multiple of 8 MiB from 8 to 512 MiB, found {bytes} bytes")
+            }
+            WrongArgument::Records { bytes } => {
+                write!(f, "records: expected 16 bytes each, at most {MAX_RECORDS} of them, found {bytes} bytes")
+            }
+            WrongArgument::Answers { bytes, expected } => {
+                write!(f, "answers: expected {expected} bytes, the records' length, found {bytes}")
+            }
+        }
+    }
+}
 
-/// Replays `records` from a cold start on the board `board` (0 for the 82810, 1 for the
-/// 82810-DC100) with `memory` as its main memory, and writes one answer of 16 bytes for each record.
+impl std::error::Error for WrongArgument {}
+
+/// Whether a board can have a memory of this length: a multiple of 8 MiB, 8 to 512 MiB.
+///
+/// ```
+/// use mitrophel::is_memory_length;
+///
+/// assert!(is_memory_length(8 << 20) && is_memory_length(512 << 20));
+/// assert!(!is_memory_length(0) && !is_memory_length(12 << 20) && !is_memory_length(520 << 20));
+/// ```
+pub const fn is_memory_length(bytes: usize) -> bool {
+    bytes.is_multiple_of(8 << 20) && 8 << 20 <= bytes && bytes <= 512 << 20
+}
+
+/// Replays records from a cold start on a board with `memory` as its main memory, and writes one answer
+/// of 16 bytes for each record. It needs 72 KiB of stack.
 ///
 /// # Errors
 ///
-/// [`Refused`], code 1, where the board kind, the memory's length (a multiple of 8 MiB, 8 to
-/// 512 MiB), the records' length (16 times at most 65,535) or the answers' length (the records') is
-/// wrong. Memory and answers then are as they were.
-pub fn replay(board: u32, memory: &mut [u8], records: &[u8], answers: &mut [u8]) -> Result<(), Refused> {
-    match proved(board, memory, records, answers) {
+/// [`WrongArgument`], code 1 of the call: memory and answers are as they were.
+///
+/// ```
+/// use mitrophel::{record, replay, Board, Record};
+///
+/// let records = record::encode(&[Record::write(0x1000, 4, 7, false), Record::read(0x1000, 4, false)]);
+/// let (mut memory, mut answers) = (vec![0; 8 << 20], vec![0; records.len()]);
+/// replay(Board::I82810, &mut memory, &records, &mut answers)?;
+/// assert_eq!(memory[0x1000], 7);
+/// assert_eq!(answers[16 + 8], 7);
+/// # Ok::<(), mitrophel::WrongArgument>(())
+/// ```
+pub fn replay(board: Board, memory: &mut [u8], records: &[u8], answers: &mut [u8]) -> Result<(), WrongArgument> {
+    match gmch_replay(board.number(), memory, records, answers) {
         0 => Ok(()),
-        _ => Err(Refused),
+        _ => Err(WrongArgument::of(memory.len(), records.len(), answers.len())
+            .expect("the call refuses wrong arguments alone")),
     }
 }
 
+/// [`replay`] on records and answers field by field.
+///
+/// # Errors
+///
+/// As [`replay`]'s.
+///
+/// ```
+/// use mitrophel::{replay_records, Board, Record};
+///
+/// let mut memory = vec![0; 8 << 20];
+/// let records = [Record::io_write(0xCF8, 4, 0x8000_0000), Record::io_read(0xCFC, 4)];
+/// let answers = replay_records(Board::Dc100, &mut memory, &records)?;
+/// assert_eq!(answers[1].value, 0x7122_8086);
+/// # Ok::<(), mitrophel::WrongArgument>(())
+/// ```
+pub fn replay_records(board: Board, memory: &mut [u8], records: &[Record]) -> Result<Vec<Answer>, WrongArgument> {
+    let records = record::encode(records);
+    let mut answers = vec![0; records.len()];
+    replay(board, memory, &records, &mut answers)?;
+    Ok(record::decode_answers(&answers).collect())
+}
+
+/// The call as C has it: any board number, 0 for done, 1 for wrong arguments.
+///
+/// ```
+/// use mitrophel::call::gmch_replay;
+///
+/// let mut memory = vec![0; 8 << 20];
+/// assert_eq!(gmch_replay(1, &mut memory, &[], &mut []), 0);
+/// assert_eq!(gmch_replay(2, &mut memory, &[], &mut []), 1);
+/// ```
 #[allow(unsafe_code)]
-fn proved(board: u32, memory: &mut [u8], records: &[u8], answers: &mut [u8]) -> u32 {
-    extern "C" {
-        fn gmch_replay(
-            board: u32,
-            memory: *mut u8,
-            memory_len: usize,
-            records: *const u8,
-            records_len: usize,
-            answers: *mut u8,
-            answers_len: usize,
-        ) -> u32;
+pub fn gmch_replay(board: u32, memory: &mut [u8], records: &[u8], answers: &mut [u8]) -> u32 {
+    mod archive {
+        extern "C" {
+            pub fn gmch_replay(
+                board: u32,
+                memory: *mut u8,
+                memory_len: usize,
+                records: *const u8,
+                records_len: usize,
+                answers: *mut u8,
+                answers_len: usize,
+            ) -> u32;
+        }
     }
     // SAFETY: each pointer and length is one slice's own, so the bytes are there for the call's time;
     // the borrow checker keeps the three apart and keeps the two mutable ones from anybody else. The
     // function asks nothing of its arguments' values, keeps no pointer and does not unwind.
     unsafe {
-        gmch_replay(
+        archive::gmch_replay(
             board,
             memory.as_mut_ptr(),
             memory.len(),

@@ -33,12 +33,14 @@ impl Faults for Faultless {
 }
 
 /// Exactly one fault.
+#[cfg(feature = "faults")]
 #[derive(Clone, Copy, Debug)]
 pub struct OneFault {
     fault: Fault,
     held: bool,
 }
 
+#[cfg(feature = "faults")]
 impl OneFault {
     /// The reference with this fault.
     pub const fn new(fault: Fault) -> OneFault {
@@ -46,6 +48,7 @@ impl OneFault {
     }
 }
 
+#[cfg(feature = "faults")]
 impl Faults for OneFault {
     #[inline]
     fn has(&self, fault: Fault) -> bool {

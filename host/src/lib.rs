@@ -8,32 +8,32 @@
 //! The whole case of document 01: select register 0 of device 0, then read its two ids.
 //!
 //! ```
-//! use mitrophel::{record, replay, Record, Target};
+//! use mitrophel::{replay_records, Board, Record, Target};
 //!
-//! let records = record::encode(&[
-//!     Record::io_write(0xCF8, 4, 0x8000_0000),
-//!     Record::io_read(0xCFC, 4),
-//! ]);
 //! let mut memory = vec![0; 8 << 20];
-//! let mut answers = vec![0; records.len()];
-//! replay(0, &mut memory, &records, &mut answers)?;
+//! let records = [Record::io_write(0xCF8, 4, 0x8000_0000), Record::io_read(0xCFC, 4)];
+//! let answers = replay_records(Board::I82810, &mut memory, &records)?;
 //!
-//! let id = record::decode_answers(&answers).last().expect("two records, two answers");
-//! assert_eq!(id.refusal(), None);
-//! assert_eq!(id.target(), Some(Target::Register));
-//! assert_eq!(id.value, 0x7120_8086);
-//! # Ok::<(), mitrophel::Refused>(())
+//! assert_eq!(answers[1].refusal(), None);
+//! assert_eq!(answers[1].target(), Some(Target::Register));
+//! assert_eq!(answers[1].value, 0x7120_8086);
+//! # Ok::<(), mitrophel::WrongArgument>(())
 //! ```
 
 #![deny(unsafe_code)]
 #![warn(missing_docs)]
 
+pub mod board;
 pub mod call;
+#[cfg(feature = "faults")]
 pub mod faults;
+#[cfg(not(feature = "faults"))]
+mod faults;
 pub mod record;
 pub mod reference;
 
-pub use call::{replay, Refused};
+pub use board::Board;
+pub use call::{is_memory_length, replay, replay_records, WrongArgument};
 pub use record::{Answer, Kind, Record, Refusal, Target};
 
 // README's Rust, as a doc test.

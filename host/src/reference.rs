@@ -19,6 +19,7 @@ pub use observe::{Observer, Rule, Touch, Unobserved};
 pub use ring::Ring;
 pub use window::Fence;
 
+use crate::board::Board;
 use crate::faults::{Fault, Faultless, Faults};
 use crate::record::{Answer, Kind, Record, Refusal, Target, MAX_RECORDS, RECORD_BYTES};
 use configuration::{default_bytes, DEVICE_IDS};
@@ -41,6 +42,7 @@ pub fn replay(board: u32, memory: &mut [u8], records: &[u8], answers: &mut [u8])
 }
 
 /// [`replay`] with an observer and faults.
+#[cfg_attr(not(feature = "faults"), doc(hidden), allow(private_bounds))]
 pub fn replay_with<O: Observer, F: Faults>(
     board: u32,
     memory: &mut [u8],
@@ -56,7 +58,7 @@ pub fn replay_with<O: Observer, F: Faults>(
         return WRONG;
     }
     let mut table = [0; TABLE_WORDS];
-    let Some(mut hub) = Hub::new(board, memory, &mut table, observer, faults) else {
+    let Some(mut hub) = Gmch::with_faults(board, memory, &mut table, observer, faults) else {
         return WRONG;
     };
     for (record, answer) in list.iter().zip(answers.as_chunks_mut::<RECORD_BYTES>().0) {
@@ -74,8 +76,20 @@ struct Access {
     data: Option<u32>,
 }
 
-/// The hub between two records.
-pub struct Hub<'m, O = Unobserved, F = Faultless> {
+/// The GMCH between two records.
+///
+/// ```
+/// use mitrophel::reference::{Gmch, TABLE_WORDS};
+/// use mitrophel::{Board, Record};
+///
+/// let (mut memory, mut table) = (vec![0; 8 << 20], [0; TABLE_WORDS]);
+/// let mut gmch = Gmch::new(Board::I82810, &mut memory, &mut table).expect("8 MiB is a memory");
+/// gmch.answer(&Record::io_write(0xCF8, 4, 0x8000_0070));
+/// gmch.answer(&Record::io_write(0xCFC, 1, 0xBE));
+/// assert!(gmch.smram().locked() && gmch.protected(0xA_0000));
+/// ```
+#[allow(private_bounds, private_interfaces)]
+pub struct Gmch<'m, O = Unobserved, F = Faultless> {
     memory: &'m mut [u8],
     table: &'m mut Table,
     tom: u32,
@@ -95,18 +109,60 @@ pub struct Hub<'m, O = Unobserved, F = Faultless> {
     faults: F,
 }
 
-impl<'m, O: Observer, F: Faults> Hub<'m, O, F> {
-    /// The hub at cold start; none where the board kind or the memory's length is wrong. The table
-    /// must be all zero, as it is at cold start.
+impl<'m> Gmch<'m> {
+    /// The GMCH at cold start, which zeroes the table; none where the memory's length is wrong.
+    ///
+    /// ```
+    /// use mitrophel::reference::{Gmch, TABLE_WORDS};
+    /// use mitrophel::Board;
+    ///
+    /// let (mut memory, mut table) = (vec![0; 12 << 20], [0; TABLE_WORDS]);
+    /// assert!(Gmch::new(Board::I82810, &mut memory, &mut table).is_none());
+    /// ```
+    pub fn new(board: Board, memory: &'m mut [u8], table: &'m mut Table) -> Option<Self> {
+        Gmch::observed(board, memory, table, Unobserved)
+    }
+}
+
+impl<'m, O: Observer> Gmch<'m, O> {
+    /// [`Gmch::new`] with an observer, which is told what each record does.
+    ///
+    /// ```
+    /// use mitrophel::reference::{Gmch, Observer, Rule, TABLE_WORDS};
+    /// use mitrophel::{Board, Record};
+    ///
+    /// #[derive(Default)]
+    /// struct Last(Option<Rule>);
+    /// impl Observer for Last {
+    ///     fn routed(&mut self, rule: Rule) {
+    ///         self.0 = Some(rule);
+    ///     }
+    /// }
+    /// let (mut memory, mut table) = (vec![0; 8 << 20], [0; TABLE_WORDS]);
+    /// let mut gmch = Gmch::observed(Board::I82810, &mut memory, &mut table, Last::default()).expect("a memory");
+    /// gmch.answer(&Record::read(0x1000, 4, false));
+    /// assert_eq!(gmch.observer().0, Some(Rule::Low));
+    /// ```
+    pub fn observed(board: Board, memory: &'m mut [u8], table: &'m mut Table, observer: O) -> Option<Self> {
+        table.fill(0);
+        Gmch::with_faults(board.number(), memory, table, observer, Faultless)
+    }
+}
+
+#[allow(private_bounds)]
+impl<'m, O: Observer, F: Faults> Gmch<'m, O, F> {
+    /// The GMCH at cold start, with faults; none where the board kind or the memory's length is wrong. The
+    /// table must be all zero, as it is at cold start.
     ///
     /// "its length is TOM: a multiple of 8 MiB, 8 to 512 MiB. Board kind 0 is 82810, 1 is DC100."
-    pub fn new(board: u32, memory: &'m mut [u8], table: &'m mut Table, observer: O, faults: F) -> Option<Self> {
+    #[cfg_attr(not(feature = "faults"), doc(hidden))]
+    pub fn with_faults(board: u32, memory: &'m mut [u8], table: &'m mut Table, observer: O, faults: F) -> Option<Self> {
         let board = usize::try_from(board).ok().filter(|&kind| kind < DEVICE_IDS.len())?;
         let tom = u32::try_from(memory.len()).ok()?;
         if !tom.is_multiple_of(8 * MIB) || !(8 * MIB..=512 * MIB).contains(&tom) {
             return None;
         }
-        let mut hub = Hub {
+        let mut hub = Gmch {
             memory,
             table,
             tom,
@@ -216,6 +272,18 @@ impl<'m, O: Observer, F: Faults> Hub<'m, O, F> {
     #[inline(always)]
     fn wrong(&self, fault: Fault) -> bool {
         self.faults.has(fault)
+    }
+
+    /// CF8h.
+    #[inline]
+    pub fn config_address(&self) -> u32 {
+        self.config_address
+    }
+
+    /// The translation table.
+    #[inline]
+    pub fn table(&self) -> &Table {
+        self.table
     }
 
     /// A fence register; none past number 7.

@@ -3,7 +3,8 @@
 mod cli;
 
 use cli::{examples, folder, names, run, run_with, word, CLOSED_PIPE, DENIED, DONE, FILE, INPUT, USAGE};
-use mitrophel::{record, Record};
+use mitrophel::reference::{Gmch, TABLE_WORDS};
+use mitrophel::{record, Board, Record};
 use std::fs;
 use std::io::{Read, Write};
 use std::process::Stdio;
@@ -185,15 +186,8 @@ fn a_long_list_is_replayed_in_calls_that_keep_its_meaning() {
     assert_eq!((run.status, run.errors.as_str()), (DONE, ""));
     let answers: Vec<_> = record::decode_answers(&run.out).collect();
     assert_eq!(answers.len(), records.len());
-    let (mut memory, mut table) = (vec![0; 8 << 20], [0; mitrophel::reference::TABLE_WORDS]);
-    let mut hub = mitrophel::reference::Hub::new(
-        0,
-        &mut memory,
-        &mut table,
-        mitrophel::reference::Unobserved,
-        mitrophel::faults::Faultless,
-    )
-    .expect("a board");
+    let (mut memory, mut table) = (vec![0; 8 << 20], [0; TABLE_WORDS]);
+    let mut hub = Gmch::new(Board::I82810, &mut memory, &mut table).expect("a board");
     for (record, answer) in records.iter().zip(answers) {
         assert_eq!(answer, hub.answer(record));
     }

@@ -4,7 +4,7 @@
 mod common;
 
 use common::MIB;
-use mitrophel::{call, record, reference, Record, Refused, Target};
+use mitrophel::{call, record, reference, replay, Board, Record, Target, WrongArgument};
 
 /// A byte that neither memory nor answers hold by themselves.
 const UNTOUCHED: u8 = 0xC3;
@@ -35,7 +35,7 @@ fn writes(count: usize) -> Vec<u8> {
 /// Asks that the call and the reference refuse the arguments and touch nothing.
 fn assert_refused(board: u32, memory: &mut [u8], records: &[u8], answers_length: usize) {
     let mut answers = vec![UNTOUCHED; answers_length];
-    assert_eq!(call::replay(board, memory, records, &mut answers), Err(Refused));
+    assert_eq!(call::gmch_replay(board, memory, records, &mut answers), 1);
     assert_eq!(reference::replay(board, memory, records, &mut answers), 1);
     assert!(answers.iter().all(|&byte| byte == UNTOUCHED), "answers were touched");
     assert!(is_marked(memory), "memory was touched");
@@ -48,7 +48,7 @@ fn record_counts_up_to_65_535_are_good() {
     for count in [0, 1, 2, 65_534, 65_535] {
         let records = writes(count);
         let mut answers = vec![UNTOUCHED; records.len()];
-        assert_eq!(call::replay(0, &mut memory, &records, &mut answers), Ok(()), "{count}");
+        assert_eq!(call::gmch_replay(0, &mut memory, &records, &mut answers), 0, "{count}");
         let mut expected = vec![0; records.len()];
         assert_eq!(reference::replay(0, &mut memory, &records, &mut expected), 0, "{count}");
         assert!(answers == expected, "{count}");
@@ -128,7 +128,7 @@ fn memory_of_8_and_of_512_mib_is_good() {
             Record::read(top, 4, false),
         ]);
         let mut answers = vec![UNTOUCHED; records.len()];
-        assert_eq!(call::replay(1, &mut memory, &records, &mut answers), Ok(()));
+        assert_eq!(call::gmch_replay(1, &mut memory, &records, &mut answers), 0);
         let answers: Vec<_> = record::decode_answers(&answers).collect();
         assert_eq!(answers[1], common::reached(Target::Memory, top - 2, 0x8281));
         assert_eq!(answers[2], common::reached(Target::Hub, top, 0));
@@ -152,4 +152,32 @@ fn everything_wrong_at_once_is_refused() {
     let mut memory = marked(8 * MIB + 1);
     assert_refused(u32::MAX, &mut memory, &writes(65_537)[1..], 5);
     assert_refused(2, &mut [], &[0], 0);
+}
+
+/// The error says which argument the call refused.
+#[test]
+fn a_wrong_argument_is_named() {
+    let mut memory = vec![0; 8 * MIB];
+    let wrong = |memory: &mut [u8], records: usize, answers: usize| {
+        let records = vec![0; records];
+        replay(Board::I82810, memory, &records, &mut vec![0; answers])
+    };
+    assert_eq!(wrong(&mut memory, 32, 32), Ok(()));
+    assert_eq!(wrong(&mut [], 0, 0), Err(WrongArgument::Memory { bytes: 0 }));
+    assert_eq!(wrong(&mut memory[1..], 0, 0), Err(WrongArgument::Memory { bytes: 8 * MIB - 1 }));
+    assert_eq!(wrong(&mut memory, 17, 17), Err(WrongArgument::Records { bytes: 17 }));
+    assert_eq!(wrong(&mut memory, 65_536 * 16, 65_536 * 16), Err(WrongArgument::Records { bytes: 65_536 * 16 }));
+    assert_eq!(wrong(&mut memory, 16, 32), Err(WrongArgument::Answers { bytes: 32, expected: 16 }));
+    assert!(WrongArgument::Answers { bytes: 32, expected: 16 }.to_string().starts_with("answers: expected 16 bytes"));
+}
+
+/// "It needs 72 KiB of stack": a thread with little more is enough.
+#[test]
+fn a_call_needs_no_more_stack_than_its_documentation_says() {
+    let call = || {
+        let records = record::encode(&[Record::run(7), Record::read(0x1000, 4, false), Record::reset()]);
+        call::gmch_replay(0, &mut vec![0; 8 * MIB], &records, &mut vec![0; records.len()])
+    };
+    let thread = std::thread::Builder::new().stack_size((72 << 10) + (8 << 10)).spawn(call).expect("a thread");
+    assert_eq!(thread.join().expect("the stack is enough"), 0);
 }

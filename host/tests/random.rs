@@ -23,8 +23,8 @@ fn call_and_reference_agree_on_random_lists() {
         records += list.records.len() / 16;
         answers.clear();
         answers.resize(list.records.len(), 0xA5);
-        let result = call::replay(list.board, &mut memory[..list.tom], &list.records, &mut answers);
-        assert_eq!(result, Ok(()), "list {number}");
+        let result = call::gmch_replay(list.board, &mut memory[..list.tom], &list.records, &mut answers);
+        assert_eq!(result, 0, "list {number}");
         if let Err(why) = lists_of.check(&list, &answers, &memory) {
             panic!("{why}");
         }
@@ -49,7 +49,7 @@ fn call_and_reference_agree_on_the_largest_memory() {
     for number in 0..lists(20_000).min(300) {
         let list = lists_of.make(number);
         let mut answers = vec![0xA5; list.records.len()];
-        assert_eq!(call::replay(list.board, &mut memory, &list.records, &mut answers), Ok(()));
+        assert_eq!(call::gmch_replay(list.board, &mut memory, &list.records, &mut answers), 0);
         if let Err(why) = lists_of.check(&list, &answers, &memory) {
             panic!("{why}");
         }
@@ -78,7 +78,7 @@ fn call_and_reference_agree_on_noise() {
         }
         let (mut answers, mut expected) = (vec![0xA5; records.len()], vec![0x5A; records.len()]);
         let board = random.below(2);
-        assert_eq!(call::replay(board, &mut memory, &records, &mut answers), Ok(()));
+        assert_eq!(call::gmch_replay(board, &mut memory, &records, &mut answers), 0);
         assert_eq!(reference::replay(board, &mut expected_memory, &records, &mut expected), 0);
         assert!(answers == expected, "list {list}");
     }

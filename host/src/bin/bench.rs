@@ -226,7 +226,7 @@ impl Bench {
         for round in 0..=10 * self.rounds {
             self.prepare(caches, &memory);
             let started = Instant::now();
-            call::replay(0, &mut memory, &records, &mut answers).expect("good arguments");
+            assert_eq!(call::gmch_replay(0, &mut memory, &records, &mut answers), 0);
             let proved = started.elapsed();
 
             self.prepare(caches, &other);

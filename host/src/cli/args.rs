@@ -3,9 +3,9 @@
 use super::failure::Failure;
 use super::files::Source;
 use super::load::Form;
-use super::names;
 use super::numbers;
 use super::style::Colour;
+use mitrophel::Board;
 use std::ffi::{OsStr, OsString};
 
 /// The options of a command.
@@ -152,13 +152,11 @@ impl Options {
         convert(&text).map(Some).map_err(wrong)
     }
 
-    /// `--board`, 0 where none is named.
-    pub fn board(&self) -> Result<u32, Failure> {
-        let board = self.converted("--board", |text| {
-            let position = names::BOARDS.iter().position(|name| name.eq_ignore_ascii_case(text));
-            position.map(|board| board as u32).ok_or_else(|| "82810 or dc100".to_string())
-        })?;
-        Ok(board.unwrap_or(0))
+    /// `--board`, the 82810 where none is named.
+    pub fn board(&self) -> Result<Board, Failure> {
+        let expected = || Board::ALL.map(Board::name).join(" or ");
+        let board = self.converted("--board", |text| Board::named(text).ok_or_else(expected))?;
+        Ok(board.unwrap_or_default())
     }
 
     /// `--text` or `--binary`, none where the content is to decide.
@@ -199,11 +197,11 @@ mod tests {
     fn options_stand_before_or_after_the_file_with_or_without_an_equals_sign() {
         for words in [["--board", "dc100", "-"], ["-", "--board", "dc100"]] {
             let options = parse(&words).expect("good words");
-            assert_eq!(options.board().expect("a board"), 1);
+            assert_eq!(options.board().expect("a board"), Board::Dc100);
             assert_eq!(options.files, ["-"]);
         }
         let options = parse(&["--board=DC100", "-o", "x", "--", "--text"]).expect("good words");
-        assert_eq!(options.board().expect("a board"), 1);
+        assert_eq!(options.board().expect("a board"), Board::Dc100);
         assert_eq!(options.value("--output"), Some(OsStr::new("x")));
         assert_eq!(options.files, ["--text"]);
         assert!(!options.has("--text"));

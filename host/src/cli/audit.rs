@@ -11,7 +11,7 @@ use super::pair::{self, Pair};
 use super::progress::Progress;
 use super::style::Style;
 use mitrophel::record::{self, MAX_RECORDS, RECORD_BYTES};
-use mitrophel::{Answer, Refusal, Target};
+use mitrophel::{Answer, Board, Refusal, Target};
 use std::ffi::OsString;
 use std::io::{self, Read, Write};
 
@@ -72,7 +72,7 @@ fn unknown_kind(options: &Options, name: &str) -> Failure {
 
 /// How every list is replayed.
 struct Audit {
-    board: u32,
+    board: Board,
     memory: Memory,
     form: Option<Form>,
     deny: Vec<Refusal>,
@@ -132,7 +132,7 @@ impl Audit {
 
 /// What replays: the proved call alone, or with the reference beside it.
 enum Engine {
-    Alone { board: u32, memory: Vec<u8> },
+    Alone { board: Board, memory: Vec<u8> },
     Compared(Pair),
 }
 

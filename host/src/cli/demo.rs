@@ -15,13 +15,13 @@ use super::style::Style;
 use super::words::wrapped;
 use super::{numbers, trace};
 use mitrophel::record;
-use mitrophel::{Answer, Kind, Record, Target};
+use mitrophel::{Answer, Board, Kind, Record, Target};
 use std::ffi::OsString;
 use std::io::{self, Write};
 
 const SAMPLE: &str = include_str!("../../../examples/desk.trace");
 
-const BOARD: u32 = 0;
+const BOARD: Board = Board::I82810;
 const MEMORY: usize = 8 << 20;
 
 /// Columns that the tale keeps to.

@@ -188,7 +188,7 @@ fn fetch_offset(step: &Step<'_, '_>) -> u32 {
 
 fn bad_entry(step: &Step<'_, '_>, refusal: Refusal, offset: u32) -> String {
     let entry = offset / 4096;
-    let word = step.ledger.table.get(entry as usize).copied().unwrap_or_default();
+    let word = step.hub.table().get(entry as usize).copied().unwrap_or_default();
     let page = words::entry_page(word);
     match refusal {
         Refusal::EntryNotValid => format!("entry {entry}, {word:08X}h, is not valid"),
@@ -228,7 +228,7 @@ fn reason(step: &Step<'_, '_>) -> String {
     let Some(rule) = step.rule else { return String::new() };
     let hub = step.hub;
     match rule {
-        Rule::ConfigAddress => words::selection(step.ledger.config_address),
+        Rule::ConfigAddress => words::selection(step.hub.config_address()),
         Rule::DeviceZero | Rule::DeviceOne => config_reason(step),
         Rule::OtherPort => port_reason(step),
         Rule::Low => "rule 1: below A0000h".to_string(),
@@ -293,7 +293,7 @@ fn config_reason(step: &Step<'_, '_>) -> String {
 }
 
 fn port_reason(step: &Step<'_, '_>) -> String {
-    let selected = step.ledger.config_address;
+    let selected = step.hub.config_address();
     match step.record.address {
         0xCF8..=0xCFB => "CF8h takes 4-byte accesses only".to_string(),
         0xCFC..=0xCFF if names::selected(selected).is_some_and(|(device, _)| device == 1) => {

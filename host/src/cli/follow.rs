@@ -6,8 +6,8 @@
 //! which is why the one undoes the other.
 
 use super::names::Bases;
-use mitrophel::reference::{Hub, Table, Unobserved, TABLE_WORDS};
-use mitrophel::{faults::Faultless, Kind, Record};
+use mitrophel::reference::{Gmch, Table, TABLE_WORDS};
+use mitrophel::{Board, Kind, Record};
 
 /// What the followed hub stands on. No name depends on the board or on the size of its memory.
 pub struct Ground {
@@ -23,12 +23,12 @@ impl Ground {
 
 /// A hub that is given configuration accesses and resets only.
 pub struct Follower<'m> {
-    hub: Hub<'m>,
+    hub: Gmch<'m>,
 }
 
 impl<'m> Follower<'m> {
     pub fn new(ground: &'m mut Ground) -> Follower<'m> {
-        let hub = Hub::new(0, &mut ground.memory, &mut ground.table, Unobserved, Faultless);
+        let hub = Gmch::new(Board::I82810, &mut ground.memory, &mut ground.table);
         Follower { hub: hub.expect("board 0 with 8 MiB is a board") }
     }
 
@@ -38,7 +38,7 @@ impl<'m> Follower<'m> {
     }
 
     /// The hub, whose configuration registers are right but for SMRAM's error bit.
-    pub fn hub(&self) -> &Hub<'m> {
+    pub fn hub(&self) -> &Gmch<'m> {
         &self.hub
     }
 

@@ -3,7 +3,7 @@
 //! The configuration registers' are those of the datasheet's two tables, the memory-mapped ones'
 //! those of the programmer's manual.
 
-use mitrophel::reference::{Hub, Observer};
+use mitrophel::reference::{Gmch, Observer};
 use mitrophel::Refusal;
 
 /// The bytes at MMADR.
@@ -13,9 +13,6 @@ pub const REGISTERS_BYTES: u32 = 512 << 10;
 const ENTRIES: std::ops::Range<u32> = 0x1_0000..0x2_0000;
 
 pub const ENTRY_COUNT: u32 = (ENTRIES.end - ENTRIES.start) / 4;
-
-/// Board kinds 0 and 1.
-pub const BOARDS: [&str; 2] = ["82810", "dc100"];
 
 /// Ports with a name.
 const PORTS: [(&str, u32); 2] = [("CONFIG_ADDRESS", CONFIG_ADDRESS), ("CONFIG_DATA", CONFIG_DATA)];
@@ -192,7 +189,7 @@ pub struct Bases {
 }
 
 impl Bases {
-    pub fn of<O: Observer>(hub: &Hub<'_, O>) -> Bases {
+    pub fn of<O: Observer>(hub: &Gmch<'_, O>) -> Bases {
         Bases { registers: hub.registers_base(), window: hub.window_base(), window_bytes: hub.window_bytes() }
     }
 

@@ -6,14 +6,14 @@
 
 use super::failure::Failure;
 use super::listing;
-use super::names::{self, Bases};
-use mitrophel::faults::Faultless;
+use super::names::Bases;
+use mitrophel::call::gmch_replay;
 use mitrophel::record::{self, RECORD_BYTES};
-use mitrophel::reference::{Hub, Observer, Rule, Table, TABLE_WORDS};
-use mitrophel::{Answer, Kind, Record, Refused, Target};
+use mitrophel::reference::{Gmch, Observer, Rule, TABLE_WORDS};
+use mitrophel::{Answer, Board, Kind, Record, Target};
 
 /// The proved call, or what a test puts in its place.
-pub type Call = fn(u32, &mut [u8], &[u8], &mut [u8]) -> Result<(), Refused>;
+pub type Call = fn(u32, &mut [u8], &[u8], &mut [u8]) -> u32;
 
 /// Remembers the rule by which the last address was routed.
 #[derive(Default)]
@@ -22,35 +22,6 @@ pub struct Heard(Option<Rule>);
 impl Observer for Heard {
     fn routed(&mut self, rule: Rule) {
         self.0 = Some(rule);
-    }
-}
-
-/// State of the hub that the reference does not show, gathered from its answers.
-pub struct Ledger {
-    /// CF8h
-    pub config_address: u32,
-    /// 2020h
-    pub table_control: u32,
-    pub table: Box<Table>,
-}
-
-impl Ledger {
-    fn new() -> Ledger {
-        Ledger { config_address: 0, table_control: 0, table: Box::new([0; TABLE_WORDS]) }
-    }
-
-    /// Takes note of what a register holds after it was written.
-    fn written(&mut self, answer: &Answer, now: u32) {
-        match (answer.target(), answer.address) {
-            (Some(Target::Register), names::CONFIG_ADDRESS) => self.config_address = now,
-            (Some(Target::MemoryMapped), 0x2020) => self.table_control = now,
-            (Some(Target::MemoryMapped), offset) => {
-                if let Some(word) = names::entry_at(offset).and_then(|entry| self.table.get_mut(entry as usize)) {
-                    *word = now;
-                }
-            }
-            _ => {}
-        }
     }
 }
 
@@ -67,13 +38,12 @@ pub struct Step<'a, 'm> {
     /// What the register holds that the record wrote.
     pub now: Option<u32>,
     /// The reference after the record.
-    pub hub: &'a Hub<'m, Heard>,
-    pub ledger: &'a Ledger,
+    pub hub: &'a Gmch<'m, Heard>,
 }
 
 /// A board under the proved call and under the reference.
 pub struct Pair {
-    board: u32,
+    board: Board,
     call: Call,
     proved: Vec<u8>,
     beside: Vec<u8>,
@@ -81,12 +51,12 @@ pub struct Pair {
 
 impl Pair {
     /// A board whose memory is given twice.
-    pub fn new(board: u32, memory: [Vec<u8>; 2]) -> Pair {
-        Pair::by(board, memory, mitrophel::replay)
+    pub fn new(board: Board, memory: [Vec<u8>; 2]) -> Pair {
+        Pair::by(board, memory, gmch_replay)
     }
 
     /// The same, with this call in the proved one's place.
-    pub fn by(board: u32, memory: [Vec<u8>; 2], call: Call) -> Pair {
+    pub fn by(board: Board, memory: [Vec<u8>; 2], call: Call) -> Pair {
         let [proved, beside] = memory;
         Pair { board, call, proved, beside }
     }
@@ -102,11 +72,13 @@ impl Pair {
         E: FnMut(&Step<'_, '_>) -> Result<(), Failure>,
     {
         let mut answers = vec![0; records.len()];
-        (self.call)(self.board, &mut self.proved, records, &mut answers).map_err(|refused| refused_call(&refused))?;
+        match (self.call)(self.board.number(), &mut self.proved, records, &mut answers) {
+            0 => {}
+            code => return Err(Failure::disagreement(format!("the proved call refused good arguments with {code}"))),
+        }
         let mut table = Box::new([0; TABLE_WORDS]);
-        let mut hub = Hub::new(self.board, &mut self.beside, &mut table, Heard::default(), Faultless)
+        let mut hub = Gmch::observed(self.board, &mut self.beside, &mut table, Heard::default())
             .ok_or_else(|| Failure::disagreement("the reference refuses a board that the proved call takes"))?;
-        let mut ledger = Ledger::new();
         for (index, (record, answer)) in record::decode(records).zip(record::decode_answers(&answers)).enumerate() {
             let bases = Bases::of(&hub);
             let beside = hub.answer(&record);
@@ -115,12 +87,7 @@ impl Pair {
             }
             let rule = hub.observer().0.take();
             let now = register_now(&mut hub, &record, &answer);
-            if record.kind() == Some(Kind::Reset) && answer.code == 0 {
-                ledger = Ledger::new();
-            } else if let Some(now) = now {
-                ledger.written(&answer, now);
-            }
-            each(&Step { index, record, answer, rule, bases, now, hub: &hub, ledger: &ledger })?;
+            each(&Step { index, record, answer, rule, bases, now, hub: &hub })?;
         }
         self.compare_memory()?;
         Ok(answers)
@@ -142,10 +109,6 @@ impl Pair {
 const LOUD: &str = "THE PROVED CALL AND THE REFERENCE DISAGREE";
 const ADVICE: &str = "Trust neither answer. Nothing was written. Please report the records with this message.";
 
-fn refused_call(refused: &Refused) -> Failure {
-    Failure::disagreement(format!("the proved call refused arguments that were checked before: {refused}"))
-}
-
 fn different_answers(index: usize, record: &Record, bases: Bases, proved: &Answer, beside: &Answer) -> Failure {
     let hex = |answer: &Answer| answer.to_bytes().map(|byte| format!("{byte:02X} ")).concat();
     Failure::disagreement(format!(
@@ -158,7 +121,7 @@ fn different_answers(index: usize, record: &Record, bases: Bases, proved: &Answe
 }
 
 /// What the register holds that a record just wrote. Reading a register changes nothing.
-fn register_now(hub: &mut Hub<'_, Heard>, record: &Record, answer: &Answer) -> Option<u32> {
+fn register_now(hub: &mut Gmch<'_, Heard>, record: &Record, answer: &Answer) -> Option<u32> {
     if answer.code != 0 || !matches!(answer.target(), Some(Target::Register | Target::MemoryMapped)) {
         return None;
     }
@@ -196,25 +159,20 @@ mod tests {
         [vec![0; 8 << 20], vec![0; 8 << 20]]
     }
 
-    fn faulty(board: u32, memory: &mut [u8], records: &[u8], answers: &mut [u8]) -> Result<(), Refused> {
+    fn faulty(board: u32, memory: &mut [u8], records: &[u8], answers: &mut [u8]) -> u32 {
         let fault = OneFault::new(Fault::LockDoesNotHold);
-        let result = reference::replay_with(board, memory, records, answers, Unobserved, fault);
-        if result == 0 {
-            Ok(())
-        } else {
-            Err(Refused)
-        }
+        reference::replay_with(board, memory, records, answers, Unobserved, fault)
     }
 
     /// Answers as the reference does, but leaves a byte of memory other than it should.
-    fn scribbling(board: u32, memory: &mut [u8], records: &[u8], answers: &mut [u8]) -> Result<(), Refused> {
-        faulty(board, memory, records, answers)?;
+    fn scribbling(board: u32, memory: &mut [u8], records: &[u8], answers: &mut [u8]) -> u32 {
+        let result = faulty(board, memory, records, answers);
         memory[0x1234] ^= 1;
-        Ok(())
+        result
     }
 
-    fn refusing(_: u32, _: &mut [u8], _: &[u8], _: &mut [u8]) -> Result<(), Refused> {
-        Err(Refused)
+    fn refusing(_: u32, _: &mut [u8], _: &[u8], _: &mut [u8]) -> u32 {
+        1
     }
 
     fn smram(value: u32) -> [Record; 2] {
@@ -232,20 +190,21 @@ mod tests {
             seen += 1;
             Ok(())
         };
-        let failure = Pair::by(0, memory(), faulty).replay(&records, &mut count).expect_err("a faulty call");
+        let failure =
+            Pair::by(Board::I82810, memory(), faulty).replay(&records, &mut count).expect_err("a faulty call");
         assert_eq!(failure.status, Status::Disagreement);
         assert!(failure.message.contains("DISAGREE at record 5 of the call: in1 CONFIG_DATA"), "{}", failure.message);
         assert_eq!(seen, 4);
-        Pair::new(0, memory()).replay(&records, |_| Ok(())).expect("the two agree");
+        Pair::new(Board::I82810, memory()).replay(&records, |_| Ok(())).expect("the two agree");
     }
 
     #[test]
     fn a_different_byte_of_memory_is_told_loudly() {
-        let mut pair = Pair::by(0, memory(), scribbling);
+        let mut pair = Pair::by(Board::I82810, memory(), scribbling);
         let failure = pair.replay(&[], |_| Ok(())).expect_err("a scribbling call");
         assert_eq!(failure.status, Status::Disagreement);
         assert!(failure.message.contains("byte 1234h is 01h after the proved call"), "{}", failure.message);
-        let failure = Pair::by(0, memory(), refusing).replay(&[], |_| Ok(())).expect_err("a refusing call");
+        let failure = Pair::by(Board::I82810, memory(), refusing).replay(&[], |_| Ok(())).expect_err("a refusing call");
         assert_eq!(failure.status, Status::Disagreement);
     }
 
@@ -283,9 +242,9 @@ mod tests {
             records.push(Record::io_read(0xCF8, 4));
         }
         let bytes = record::encode(&records);
-        let mut whole = Pair::new(0, memory());
+        let mut whole = Pair::new(Board::I82810, memory());
         let expected = whole.replay(&bytes, |_| Ok(())).expect("the two agree");
-        let mut cut = Pair::new(0, memory());
+        let mut cut = Pair::new(Board::I82810, memory());
         let mut answers = Vec::new();
         let resets = (0..records.len()).filter(|&at| records[at] == Record::reset());
         let edges: Vec<usize> = [0].into_iter().chain(resets).chain([records.len()]).collect();

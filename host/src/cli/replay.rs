@@ -7,6 +7,7 @@ use super::files::{Pending, Sink, Source};
 use super::load::{List, Memory};
 use super::pair::{Call, Pair};
 use super::style::Style;
+use mitrophel::call::gmch_replay;
 use mitrophel::record::RECORD_BYTES;
 use std::ffi::OsString;
 use std::io::{self, IsTerminal, Write};
@@ -24,7 +25,7 @@ const GRAMMAR: Grammar = Grammar {
 
 /// `mitrophel replay`
 pub fn run(words: &[OsString]) -> Result<Status, Failure> {
-    run_by(words, mitrophel::replay)
+    run_by(words, gmch_replay)
 }
 
 /// The same, by this call.
@@ -120,17 +121,11 @@ mod tests {
     use super::*;
     use mitrophel::faults::{Fault, OneFault};
     use mitrophel::reference::{self, Unobserved};
-    use mitrophel::Refused;
     use std::{env, fs, process};
 
-    fn leaking(board: u32, memory: &mut [u8], records: &[u8], answers: &mut [u8]) -> Result<(), Refused> {
+    fn leaking(board: u32, memory: &mut [u8], records: &[u8], answers: &mut [u8]) -> u32 {
         let fault = OneFault::new(Fault::ProtectionNotChecked);
-        let result = reference::replay_with(board, memory, records, answers, Unobserved, fault);
-        if result == 0 {
-            Ok(())
-        } else {
-            Err(Refused)
-        }
+        reference::replay_with(board, memory, records, answers, Unobserved, fault)
     }
 
     /// A call that lets an entry reach the key: exit status 5, a loud message, and no file.

@@ -9,8 +9,8 @@ use super::load::{List, Memory};
 use super::pair::{Pair, Step};
 use super::{names, numbers, words};
 use mitrophel::record::{self, MAX_RECORDS, RECORD_BYTES};
-use mitrophel::reference::{Hub, Rule};
-use mitrophel::Record;
+use mitrophel::reference::{Gmch, Rule};
+use mitrophel::{Board, Record};
 
 /// Where one kind of access goes.
 #[derive(Clone, Debug, PartialEq, Eq)]
@@ -74,7 +74,7 @@ pub struct Map {
 }
 
 /// Where the map may change, from 0 up.
-fn edges(hub: &Hub<'_>, tom: u32) -> Vec<u32> {
+fn edges(hub: &Gmch<'_>, tom: u32) -> Vec<u32> {
     let (tseg, taken) = (hub.smram().tseg_bytes(), hub.smram().taken_bytes());
     let mut edges: Vec<u64> = [0, 0xA_0000, 0xC_0000, 0x10_0000, 0x4000_0000, 0xFEEA_0000, 0xFEEC_0000].to_vec();
     edges.extend([tom - tseg - taken, tom - tseg, tom].map(u64::from));
@@ -100,7 +100,7 @@ fn probes(edge: u32) -> [Record; 4] {
 
 impl Map {
     /// The map in force after the list's records.
-    pub fn after(board: u32, memory: &Memory, list: &List) -> Result<Map, Failure> {
+    pub fn after(board: Board, memory: &Memory, list: &List) -> Result<Map, Failure> {
         let mut calls = list.calls()?;
         let last = calls.pop().unwrap_or(0..0);
         let mut pair = Pair::new(board, [memory.fresh(), memory.fresh()]);
@@ -154,7 +154,7 @@ struct Asked {
 }
 
 impl Asked {
-    fn note(&mut self, step: &Step<'_, '_>, board: u32) {
+    fn note(&mut self, step: &Step<'_, '_>, board: Board) {
         let Some(number) = step.index.checked_sub(self.probes) else { return };
         if number == 0 {
             self.describe(step, board);
@@ -165,13 +165,12 @@ impl Asked {
         self.rules.push(step.rule);
     }
 
-    fn describe(&mut self, step: &Step<'_, '_>, board: u32) {
+    fn describe(&mut self, step: &Step<'_, '_>, board: Board) {
         let hub = step.hub;
-        let name = names::BOARDS.get(board as usize).copied().unwrap_or_default();
         let memory = numbers::bytes(hub.tom().into());
         self.tom = hub.tom();
         self.usable_top = hub.usable_top();
-        self.title = format!("Address map: board {name}, {memory}, SMRAM {:02X}h", hub.smram().0);
+        self.title = format!("Address map: board {board}, {memory}, SMRAM {:02X}h", hub.smram().0);
         self.lines.push(format!("SMRAM: {}.", words::smram(hub.smram())));
         self.lines.push(format!(
             "Memory ends at TOM, {:X}h, ordinary memory at U, {:X}h.",
@@ -185,8 +184,8 @@ impl Asked {
         } else {
             self.lines.push("Window and registers are off.".to_string());
         }
-        self.translation = step.ledger.table_control & 1 != 0;
-        self.table = mappings(&step.ledger.table[..], |page| {
+        self.translation = step.hub.register(0x2020).is_some_and(|control| control & 1 != 0);
+        self.table = mappings(step.hub.table(), |page| {
             if page >= hub.tom() {
                 Reach::AboveMemory
             } else if hub.protected(page) {
@@ -305,7 +304,6 @@ fn continues(run: &Mapping, entry: u32, page: u32, reach: Reach) -> bool {
 #[cfg(test)]
 mod tests {
     use super::*;
-    use mitrophel::faults::Faultless;
     use mitrophel::reference::{Observer, TABLE_WORDS};
 
     #[derive(Default)]
@@ -338,7 +336,7 @@ mod tests {
             for (number, (window, registers)) in bases.into_iter().enumerate().skip(smram as usize / 4 % 2).step_by(2) {
                 let records = setup(smram, window, registers, number as u32 & 1);
                 let list = List::binary(String::new(), record::encode(&records)).expect("whole records");
-                let map = Map::after(0, &memory, &list).expect("a map");
+                let map = Map::after(Board::I82810, &memory, &list).expect("a map");
                 asked += check(&map, &memory, &records);
             }
         }
@@ -347,7 +345,7 @@ mod tests {
 
     fn check(map: &Map, memory: &Memory, setup: &[Record]) -> usize {
         let (mut bytes, mut table) = (memory.fresh(), Box::new([0; TABLE_WORDS]));
-        let mut hub = Hub::new(0, &mut bytes, &mut table, Heard::default(), Faultless).expect("a board");
+        let mut hub = Gmch::observed(Board::I82810, &mut bytes, &mut table, Heard::default()).expect("a board");
         for record in setup {
             hub.answer(record);
         }

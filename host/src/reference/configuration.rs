@@ -1,7 +1,7 @@
 //! Configuration space: CF8h, the registers of the two devices, SMRAM (document 01, "Configuration
 //! space").
 
-use super::{reached, Access, Hub, Observer, Rule, KIB, MIB};
+use super::{reached, Access, Gmch, Observer, Rule, KIB, MIB};
 use crate::faults::{Fault, Faults};
 use crate::record::{Answer, Target};
 
@@ -171,7 +171,7 @@ impl Smram {
     }
 }
 
-impl<O: Observer, F: Faults> Hub<'_, O, F> {
+impl<O: Observer, F: Faults> Gmch<'_, O, F> {
     /// An I/O access. "CF8h takes 4-byte accesses only ... If bit 31 is set, CFCh-CFFh reach bus
     /// 23:16, device 15:11, function 10:8 ... All else, narrower CF8h accesses and every other port,
     /// goes to the hub."
@@ -299,6 +299,12 @@ impl<O: Observer, F: Faults> Hub<'_, O, F> {
     /// Puts a locked SMRAM back after a reset ([`Fault::ResetKeepsLock`]).
     pub(super) fn put_back(&mut self, smram: Smram) {
         self.devices[0][SMRAM] = smram.0;
+    }
+
+    /// A byte of a device's configuration space, as a read gives it; none where there is none.
+    pub fn config_byte(&self, device: usize, register: usize) -> Option<u8> {
+        let exists = device < self.devices.len() && register < self.devices[0].len();
+        exists.then(|| self.config_read(device, register, 1) as u8)
     }
 
     /// SMRAM, device 0 register 70.

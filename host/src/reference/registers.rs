@@ -1,6 +1,6 @@
 //! The memory-mapped registers (document 01, "Table, fences, ring, interrupts").
 
-use super::{reached, Access, Fence, Hub, Observer};
+use super::{reached, Access, Fence, Gmch, Observer};
 use crate::faults::{Fault, Faults};
 use crate::record::{Answer, Refusal, Target};
 
@@ -77,7 +77,7 @@ const RING_LENGTH_BITS: u32 = 0x001F_F001;
 /// "A user interrupt sets identity bit 1".
 const USER_INTERRUPT: u16 = 1 << 1;
 
-impl<O: Observer, F: Faults> Hub<'_, O, F> {
+impl<O: Observer, F: Faults> Gmch<'_, O, F> {
     /// Code 10: "access touches a listed memory-mapped register without being exactly it". Others
     /// "read 0, ignore writes".
     #[inline]
@@ -100,6 +100,11 @@ impl<O: Observer, F: Faults> Hub<'_, O, F> {
             _ => 0,
         };
         Ok(reached(Target::MemoryMapped, offset, value))
+    }
+
+    /// The listed memory-mapped register at this offset, as a read of it gives it; none where none starts.
+    pub fn register(&self, offset: u32) -> Option<u32> {
+        Listed::in_word(offset).filter(|_| offset.is_multiple_of(4)).map(|listed| self.register_read(listed))
     }
 
     #[inline]

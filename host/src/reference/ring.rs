@@ -1,6 +1,6 @@
 //! The ring parser (document 01, "Table, fences, ring, interrupts").
 
-use super::{Hub, Observer, Touch, KIB, MIB};
+use super::{Gmch, Observer, Touch, KIB, MIB};
 use crate::faults::{Fault, Faults};
 use crate::record::{Answer, Refusal};
 
@@ -43,7 +43,7 @@ impl Ring {
     }
 }
 
-impl<O: Observer, F: Faults> Hub<'_, O, F> {
+impl<O: Observer, F: Faults> Gmch<'_, O, F> {
     /// "a run takes step after step until it ends so, a step is refused, or the budget is used up,
     /// which is code 0 with nothing further checked. Count = completed steps". "A parser run gives
     /// target 0, the head register afterwards as address, value 0 and the count."

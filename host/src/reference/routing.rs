@@ -1,6 +1,6 @@
 //! Where an address goes, and access to main memory (document 01, "Where an address goes").
 
-use super::{reached, Access, Hub, Lsmm, Observer, Rule, Smram, Touch, KIB};
+use super::{reached, Access, Gmch, Lsmm, Observer, Rule, Smram, Touch, KIB};
 use crate::faults::{Fault, Faults};
 use crate::record::{Answer, Refusal, Target};
 
@@ -28,7 +28,7 @@ enum Route {
     Window(u32),
 }
 
-impl<O: Observer, F: Faults> Hub<'_, O, F> {
+impl<O: Observer, F: Faults> Gmch<'_, O, F> {
     /// An access of the processor or of a hub master.
     #[inline]
     pub(super) fn addressed(&mut self, access: Access, mode: Mode) -> Result<Answer, Refusal> {

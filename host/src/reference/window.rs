@@ -1,7 +1,7 @@
 //! The window: fences and translation (document 01, "Table, fences, ring, interrupts").
 
 use super::routing::Mode;
-use super::{Access, Hub, Observer, KIB, MIB};
+use super::{Access, Gmch, Observer, KIB, MIB};
 use crate::faults::{Fault, Faults};
 use crate::record::{Answer, Refusal};
 
@@ -67,7 +67,7 @@ impl Fence {
     }
 }
 
-impl<O: Observer, F: Faults> Hub<'_, O, F> {
+impl<O: Observer, F: Faults> Gmch<'_, O, F> {
     /// A processor access through the window; the codes come in the order "9, 3, 4, 5, 7, 6".
     #[inline]
     pub(super) fn window_access(&mut self, offset: u32, access: Access, mode: Mode) -> Result<Answer, Refusal> {

@@ -6,7 +6,7 @@
 
 use super::{Random, Watch};
 use mitrophel::faults::Faultless;
-use mitrophel::reference::{Hub, Table, TABLE_WORDS};
+use mitrophel::reference::{Gmch, Table, TABLE_WORDS};
 use mitrophel::{Answer, Record};
 
 const KIB: u32 = 1 << 10;
@@ -60,7 +60,7 @@ pub fn table() -> Box<Table> {
 /// A list in the making.
 pub struct Generator<'m> {
     pub random: Random,
-    pub hub: Hub<'m, Watch, Faultless>,
+    pub hub: Gmch<'m, Watch, Faultless>,
     pub records: Vec<Record>,
     pub answers: Vec<Answer>,
     /// Pages of the window that this list keeps coming back to.
@@ -72,7 +72,7 @@ pub struct Generator<'m> {
 impl<'m> Generator<'m> {
     pub fn new(random: Random, board: u32, memory: &'m mut [u8], table: &'m mut Table) -> Generator<'m> {
         table.fill(0);
-        let hub = Hub::new(board, memory, table, Watch::default(), Faultless).expect("a good board");
+        let hub = Gmch::with_faults(board, memory, table, Watch::default(), Faultless).expect("a good board");
         let mut generator =
             Generator { random, hub, records: Vec::new(), answers: Vec::new(), pages: Vec::new(), resets: true };
         for _ in 0..6 {

@@ -178,7 +178,7 @@ pub fn replay_both(board: u32, memory: &mut [u8], records: &[Record]) -> Vec<Ans
     let mut expected = vec![0xA5; bytes.len()];
     let mut actual = vec![0x5A; bytes.len()];
     assert_eq!(reference::replay(board, &mut expected_memory, &bytes, &mut expected), 0);
-    assert_eq!(call::replay(board, memory, &bytes, &mut actual), Ok(()));
+    assert_eq!(call::gmch_replay(board, memory, &bytes, &mut actual), 0);
     let pairs = record::decode_answers(&expected).zip(record::decode_answers(&actual));
     for (record, (expected, actual)) in records.iter().zip(pairs) {
         assert_eq!(actual, expected, "{record}");
