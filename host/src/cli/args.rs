@@ -1,5 +1,6 @@
 //! The words of a command line.
 
+use super::explain::Secrets;
 use super::failure::Failure;
 use super::files::Source;
 use super::load::Form;
@@ -28,7 +29,7 @@ pub struct Options {
 }
 
 /// Options that may be given more than once.
-const REPEATED: &[&str] = &["--deny"];
+const REPEATED: &[&str] = &["--deny", "--only"];
 
 /// Short forms.
 const SHORT: &[(&str, &str)] = &[("-o", "--output")];
@@ -166,6 +167,15 @@ impl Options {
             (true, false) => Ok(Some(Form::Text)),
             (false, true) => Ok(Some(Form::Binary)),
             (false, false) => Ok(None),
+        }
+    }
+
+    /// `--show-protected`
+    pub fn secrets(&self) -> Secrets {
+        if self.has("--show-protected") {
+            Secrets::Shown
+        } else {
+            Secrets::Hidden
         }
     }
 

@@ -6,7 +6,7 @@
 //! picture from memory.
 
 use super::args::Grammar;
-use super::explain::Told;
+use super::explain::{Secrets, Told};
 use super::failure::{Failure, Status};
 use super::names::Bases;
 use super::pair::{Pair, Step};
@@ -96,7 +96,7 @@ impl Run {
         let mut pair = Pair::new(BOARD, [vec![0; MEMORY], vec![0; MEMORY]]);
         let (mut told, mut bases, mut landed, mut protected) = (Vec::new(), Vec::new(), Vec::new(), Vec::new());
         let answers = pair.replay(bytes, |step| {
-            told.push(Told::of(step));
+            told.push(Told::of(step, Secrets::Shown));
             bases.push(step.bases);
             landed.push(lands(step));
             if (step.index + 1) * record::RECORD_BYTES == bytes.len() {

@@ -17,6 +17,17 @@ pub enum Tone {
     Refused,
 }
 
+/// Whether values of protected memory are shown.
+#[derive(Clone, Copy, Debug, PartialEq, Eq)]
+pub enum Secrets {
+    Hidden,
+    /// `--show-protected`
+    Shown,
+}
+
+/// What stands for a value of protected memory.
+pub const REDACTED: &str = "\u{B7}\u{B7}";
+
 /// What there is to say about a record and its answer.
 pub struct Told {
     pub tone: Tone,
@@ -31,19 +42,36 @@ pub struct Told {
 }
 
 impl Told {
-    pub fn of(step: &Step<'_, '_>) -> Told {
-        let (tone, outcome) = outcome(step);
-        Told {
-            tone,
-            asked: listing::statement(&step.record, step.bases),
-            outcome,
-            reason: reason(step),
-            line: step.answer.line != 0,
-        }
+    pub fn of(step: &Step<'_, '_>, secrets: Secrets) -> Told {
+        let hidden = step.protected && secrets == Secrets::Hidden;
+        let (tone, outcome) = outcome(step, hidden);
+        Told { tone, asked: asked(step, hidden), outcome, reason: reason(step), line: step.answer.line != 0 }
+    }
+
+    /// What an expectation of a trace says of it, with or without the reason.
+    pub fn expectation(&self, reasons: bool) -> String {
+        let line = if self.line { ", interrupt line up" } else { "" };
+        let reason = if reasons && !self.reason.is_empty() { format!(" ({})", self.reason) } else { String::new() };
+        format!("{}{line}{reason}", self.outcome)
+    }
+
+    /// Whether it is what an expectation says.
+    pub fn meets(&self, expectation: &str) -> bool {
+        [false, true].iter().any(|&reasons| self.expectation(reasons) == expectation)
     }
 }
 
-fn outcome(step: &Step<'_, '_>) -> (Tone, String) {
+/// The record as a statement, without its data where that is hidden.
+fn asked(step: &Step<'_, '_>, hidden: bool) -> String {
+    let statement = listing::statement(&step.record, step.bases);
+    let data = numbers::data(step.record.data, step.record.width);
+    match statement.strip_suffix(&data).filter(|_| hidden && is_write(step)) {
+        Some(start) => format!("{start}{REDACTED}"),
+        None => statement,
+    }
+}
+
+fn outcome(step: &Step<'_, '_>, hidden: bool) -> (Tone, String) {
     let answer = &step.answer;
     if let Some(refusal) = answer.refusal() {
         return (Tone::Refused, format!("refused {}: {}", refusal.code(), why(step, refusal)));
@@ -59,25 +87,27 @@ fn outcome(step: &Step<'_, '_>) -> (Tone, String) {
         }
         (_, Some(Target::Hub)) => (Tone::Passed, "hub".to_string()),
         (_, Some(Target::Vga)) => (Tone::Passed, format!("VGA offset {:X}h", answer.address)),
-        (_, Some(Target::Memory)) => (Tone::Reached, memory(step)),
+        (_, Some(Target::Memory)) => (Tone::Reached, memory(step, hidden)),
         (_, Some(Target::Register)) => (Tone::Reached, register(step, &config_name(step))),
         (_, Some(Target::MemoryMapped)) => (Tone::Reached, mapped(step)),
         _ => (Tone::Passed, answer.to_string()),
     }
 }
 
-fn memory(step: &Step<'_, '_>) -> String {
-    let width = step.record.width;
-    let at = step.answer.address;
-    if !is_write(step) {
-        return format!("memory {at:X}h = {}", numbers::data(step.answer.value, width));
-    }
+fn memory(step: &Step<'_, '_>, hidden: bool) -> String {
+    let (at, width, written) = (step.answer.address, step.record.width, is_write(step));
     let kept = match width {
         1 => step.record.data & 0xFF,
         2 => step.record.data & 0xFFFF,
         _ => step.record.data,
     };
-    format!("memory {at:X}h takes {}", numbers::data(kept, width))
+    let verb = if written { "takes" } else { "=" };
+    let value = if hidden {
+        REDACTED.to_string()
+    } else {
+        numbers::data(if written { kept } else { step.answer.value }, width)
+    };
+    format!("memory {at:X}h {verb} {value}")
 }
 
 fn is_write(step: &Step<'_, '_>) -> bool {

@@ -70,6 +70,11 @@ impl List {
         }
     }
 
+    /// The file and the line of a record, from 0; none in the binary form.
+    pub fn line(&self, index: usize) -> Option<(&str, u32)> {
+        self.lines.as_ref().and_then(|lines| lines.get(index)).map(|line| (self.name.as_str(), *line))
+    }
+
     /// The bytes of each call that the list needs.
     pub fn calls(&self) -> Result<Vec<Range<usize>>, Failure> {
         let mut calls = Vec::new();

@@ -222,6 +222,11 @@ pub const REFUSALS: [(Refusal, &str); 12] = [
     (Refusal::Layout, "layout"),
 ];
 
+/// The short name of a refusal that an answer can hold.
+pub fn refusal_name(refusal: Refusal) -> &'static str {
+    REFUSALS.iter().find(|(own, _)| *own == refusal).map_or("", |(_, name)| name)
+}
+
 /// The refusal with this short name or number.
 pub fn refusal_named(text: &str) -> Option<Refusal> {
     let matches =

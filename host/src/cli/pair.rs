@@ -9,19 +9,28 @@ use super::listing;
 use super::names::Bases;
 use mitrophel::call::gmch_replay;
 use mitrophel::record::{self, RECORD_BYTES};
-use mitrophel::reference::{Gmch, Observer, Rule, TABLE_WORDS};
+use mitrophel::reference::{Gmch, Observer, Rule, Touch, TABLE_WORDS};
 use mitrophel::{Answer, Board, Kind, Record, Target};
 
 /// The proved call, or what a test puts in its place.
 pub type Call = fn(u32, &mut [u8], &[u8], &mut [u8]) -> u32;
 
-/// Remembers the rule by which the last address was routed.
+/// What the reference did with the last record.
 #[derive(Default)]
-pub struct Heard(Option<Rule>);
+pub struct Heard {
+    /// The rule by which its address was routed.
+    rule: Option<Rule>,
+    /// It read or wrote protected memory.
+    protected: bool,
+}
 
 impl Observer for Heard {
     fn routed(&mut self, rule: Rule) {
-        self.0 = Some(rule);
+        self.rule = Some(rule);
+    }
+
+    fn touched(&mut self, touch: Touch) {
+        self.protected |= touch.protected;
     }
 }
 
@@ -33,6 +42,8 @@ pub struct Step<'a, 'm> {
     pub answer: Answer,
     /// The rule that routed it, if it came so far.
     pub rule: Option<Rule>,
+    /// It read or wrote protected memory, so its value is not for everybody.
+    pub protected: bool,
     /// What the names stood for when the record came.
     pub bases: Bases,
     /// What the register holds that the record wrote.
@@ -85,9 +96,9 @@ impl Pair {
             if answer != beside {
                 return Err(different_answers(index, &record, bases, &answer, &beside));
             }
-            let rule = hub.observer().0.take();
+            let Heard { rule, protected } = std::mem::take(hub.observer());
             let now = register_now(&mut hub, &record, &answer);
-            each(&Step { index, record, answer, rule, bases, now, hub: &hub })?;
+            each(&Step { index, record, answer, rule, protected, bases, now, hub: &hub })?;
         }
         self.compare_memory()?;
         Ok(answers)
@@ -131,7 +142,7 @@ fn register_now(hub: &mut Gmch<'_, Heard>, record: &Record, answer: &Answer) -> 
         _ => return None,
     };
     let value = hub.answer(&read).value;
-    hub.observer().0 = None;
+    *hub.observer() = Heard::default();
     Some(value)
 }
 

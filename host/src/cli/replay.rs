@@ -1,25 +1,23 @@
 //! `replay`.
 
 use super::args::{Grammar, Options};
-use super::explain::Told;
+use super::explain::{Secrets, Told};
 use super::failure::{Failure, Status};
 use super::files::{Pending, Sink, Source};
 use super::load::{List, Memory};
-use super::pair::{Call, Pair};
+use super::only::Only;
+use super::pair::{Call, Pair, Step};
+use super::report::{Entry, Format, Report};
 use super::style::Style;
 use mitrophel::call::gmch_replay;
 use mitrophel::record::RECORD_BYTES;
 use std::ffi::OsString;
 use std::io::{self, IsTerminal, Write};
 
-/// Columns of the record and of where it went.
-const ASKED: usize = 34;
-const OUTCOME: usize = 36;
-
 const GRAMMAR: Grammar = Grammar {
     command: "replay",
-    values: &["--board", "--memory", "--image", "--answers", "--dump", "--color"],
-    switches: &["--text", "--binary"],
+    values: &["--board", "--memory", "--image", "--only", "--answers", "--dump", "--color"],
+    switches: &["--json", "--csv", "--lines", "--show-protected", "--redact", "--text", "--binary"],
     files: 1,
 };
 
@@ -32,9 +30,9 @@ pub fn run(words: &[OsString]) -> Result<Status, Failure> {
 fn run_by(words: &[OsString], call: Call) -> Result<Status, Failure> {
     let options = GRAMMAR.parse(words)?;
     let board = options.board()?;
-    let style = Style::new(options.colour()?);
     let form = options.form()?;
     let source = options.source()?;
+    let printer = Printer::given(&options)?;
     let outputs = Outputs::given(&options)?;
     if source == Source::Standard && options.value("--image").is_some_and(|file| file == "-") {
         return Err(options.usage("FILE and --image cannot both be standard input"));
@@ -46,11 +44,14 @@ fn run_by(words: &[OsString], call: Call) -> Result<Status, Failure> {
     let mut pair = Pair::by(board, [memory.fresh(), memory.fresh()], call);
     let mut out = io::BufWriter::new(io::stdout().lock());
     let mut answers = Vec::new();
+    if let Some(printer) = &printer {
+        printer.report.start(&mut out)?;
+    }
     for call in calls {
         let first = call.start / RECORD_BYTES;
         answers.extend(pair.replay(&list.records[call], |step| {
-            if outputs.answers.is_none() {
-                line(&mut out, style, first + step.index + 1, &Told::of(step))?;
+            if let Some(printer) = &printer {
+                printer.record(&mut out, &list, first + step.index, step)?;
             }
             Ok(())
         })?);
@@ -61,22 +62,40 @@ fn run_by(words: &[OsString], call: Call) -> Result<Status, Failure> {
     Ok(Status::Done)
 }
 
-/// One record and its answer.
-fn line(out: &mut impl Write, style: Style, number: usize, told: &Told) -> io::Result<()> {
-    let number = style.dim(&format!("{number:>6}"));
-    let interrupt = if told.line { style.warning("  interrupt line up") } else { String::new() };
-    writeln!(out, "{number}  {:<ASKED$}  {}{interrupt}", told.asked, answer(style, told))
+/// What is printed of the records, and how.
+struct Printer {
+    report: Report,
+    only: Only,
+    secrets: Secrets,
 }
 
-/// Where a record went and why, in two columns unless it was refused.
-fn answer(style: Style, told: &Told) -> String {
-    let Told { tone, outcome, reason, .. } = told;
-    if reason.is_empty() {
-        style.tone(*tone, outcome)
-    } else if outcome.starts_with("refused") {
-        format!("{} ({reason})", style.tone(*tone, outcome))
-    } else {
-        format!("{}  {}", style.tone(*tone, &format!("{outcome:<OUTCOME$}")), style.dim(reason))
+impl Printer {
+    /// By the options; none where the answers go to a file and nothing was asked to be printed.
+    fn given(options: &Options) -> Result<Option<Printer>, Failure> {
+        let format = match (options.has("--json"), options.has("--csv")) {
+            (true, true) => return Err(options.usage("--json and --csv exclude each other")),
+            (true, false) => Some(Format::Json),
+            (false, true) => Some(Format::Csv),
+            (false, false) => None,
+        };
+        let style = Style::new(options.colour()?);
+        let only = Only::given(options)?;
+        if format.is_none() && options.has("--answers") {
+            return Ok(None);
+        }
+        let columns = system::columns(1).filter(|_| io::stdout().is_terminal());
+        let report = Report { format: format.unwrap_or(Format::Text), style, columns, lines: options.has("--lines") };
+        Ok(Some(Printer { report, only, secrets: options.secrets() }))
+    }
+
+    /// Prints a record, counted from 0, if it is of a kind that is told.
+    fn record(&self, out: &mut impl Write, list: &List, index: usize, step: &Step<'_, '_>) -> io::Result<()> {
+        if !self.only.tells(step) {
+            return Ok(());
+        }
+        let told = &Told::of(step, self.secrets);
+        let hidden = step.protected && self.secrets == Secrets::Hidden;
+        self.report.record(out, &Entry { number: index + 1, place: list.line(index), step, told, hidden })
     }
 }
 

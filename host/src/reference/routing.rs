@@ -3,6 +3,7 @@
 use super::{reached, Access, Gmch, Lsmm, Observer, Rule, Smram, Touch, KIB};
 use crate::faults::{Fault, Faults};
 use crate::record::{Answer, Refusal, Target};
+use std::ops::Range;
 
 /// Who makes an access, as far as routing looks at it.
 #[derive(Clone, Copy, PartialEq, Eq)]
@@ -165,6 +166,13 @@ impl<O: Observer, F: Faults> Gmch<'_, O, F> {
         }
         let closed = matches!(smram.lsmm(), Lsmm::ManagementCodeReads | Lsmm::ManagementAll) || self.hseg_acts();
         (0xA_0000..=0xB_FFFF).contains(&address) && closed || self.in_tseg(address)
+    }
+
+    /// Where [`Gmch::protected`] bytes lie: A0000h-BFFFFh and the TSEG, each empty where it is not protected.
+    pub fn protected_ranges(&self) -> [Range<u32>; 2] {
+        let tseg = self.tom - self.smram().tseg_bytes();
+        let ranges = [0xA_0000..0xC_0000, tseg..self.tom];
+        ranges.map(|range| if self.protected(range.start) { range } else { 0..0 })
     }
 
     /// "value read, zero-extended (0 for writes)"; "a write's data past its width is ignored".
