@@ -1,7 +1,8 @@
 //! `mitrophel`: record lists of the 82810 hub written, read, replayed and explained on the command
 //! line.
 
-#![forbid(unsafe_code)]
+// But for the few C functions of `cli::system`.
+#![deny(unsafe_code)]
 
 mod cli;
 

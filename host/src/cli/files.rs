@@ -1,10 +1,12 @@
 //! Files in and out. An output file appears whole or not at all: it is written under another name in
-//! the same folder and then renamed.
+//! the same folder, where only its owner can read it, and then renamed.
 
 use super::failure::Failure;
+use super::system::{self, Doomed};
 use std::ffi::OsStr;
-use std::fs::{self, File};
+use std::fs::{self, File, Permissions};
 use std::io::{self, Read, Write};
+use std::os::unix::fs::{OpenOptionsExt, PermissionsExt};
 use std::path::{Path, PathBuf};
 use std::process;
 
@@ -81,21 +83,47 @@ impl Sink {
     }
 }
 
-/// A file that is removed unless it is renamed.
+/// Who may read an output file that was not there before.
+#[derive(Clone, Copy, Debug, PartialEq, Eq)]
+pub enum Secrecy {
+    /// Whom the user's mask lets.
+    Open,
+    /// Its owner alone.
+    Secret,
+}
+
+impl Secrecy {
+    fn permissions(self) -> Permissions {
+        Permissions::from_mode(match self {
+            Secrecy::Open => 0o666 & !system::mask(),
+            Secrecy::Secret => PRIVATE,
+        })
+    }
+}
+
+/// The mode of a file that only its owner can read.
+const PRIVATE: u32 = 0o600;
+
+/// A file that is removed unless it is renamed, by a signal too.
 struct Temporary {
     path: PathBuf,
     renamed: bool,
+    _doomed: Doomed,
 }
 
 impl Temporary {
-    /// A new file in a folder.
+    /// A new file in a folder. It is empty until it is entered with those that a signal removes.
     fn create(folder: &Path) -> io::Result<(File, Temporary)> {
         let mut number = 0;
         loop {
             let path = folder.join(format!(".mitrophel-{}-{number}.tmp", process::id()));
-            match File::options().write(true).create_new(true).open(&path) {
+            match File::options().write(true).create_new(true).mode(PRIVATE).open(&path) {
                 Err(error) if error.kind() == io::ErrorKind::AlreadyExists && number < 100 => number += 1,
-                result => return result.map(|file| (file, Temporary { path, renamed: false })),
+                Err(error) => return Err(error),
+                Ok(file) => {
+                    let doomed = Doomed::new(&path).inspect_err(|_| drop(fs::remove_file(&path)))?;
+                    return Ok((file, Temporary { path, renamed: false, _doomed: doomed }));
+                }
             }
         }
     }
@@ -128,21 +156,25 @@ pub enum Pending<'a> {
 pub struct Written(Temporary);
 
 impl<'a> Pending<'a> {
-    /// Writes the bytes of a file under another name.
-    pub fn new(sink: &Sink, bytes: &'a [u8]) -> Result<Pending<'a>, Failure> {
+    /// Writes the bytes of a file under another name. A file that is there already keeps its permissions.
+    pub fn new(sink: &Sink, bytes: &'a [u8], secrecy: Secrecy) -> Result<Pending<'a>, Failure> {
         let Sink::File(path) = sink else { return Ok(Pending::Standard(bytes)) };
         let failure = |error: io::Error| Failure::file(path, &error);
         match fs::metadata(path) {
             Ok(data) if data.is_dir() => Err(failure(io::ErrorKind::IsADirectory.into())),
             Ok(data) if !data.is_file() => Ok(Pending::Direct(path.clone(), bytes)),
             Ok(data) => {
-                // A link's own file is written anew, not the link; it keeps its permissions.
+                // A link's own file is written anew, not the link.
                 let path = fs::canonicalize(path).map_err(failure)?;
-                let temporary = write_beside(&path, bytes, Some(data.permissions())).map_err(failure)?;
+                let (file, temporary) = write_beside(&path, bytes).map_err(failure)?;
+                file.set_permissions(data.permissions()).and_then(|()| file.sync_all()).map_err(failure)?;
                 Ok(Pending::Written(path, Written(temporary)))
             }
             Err(_) => {
-                let temporary = write_beside(path, bytes, None).map_err(failure)?;
+                let (file, temporary) = write_beside(path, bytes).map_err(failure)?;
+                // Some file systems have no permissions to set.
+                let _ = file.set_permissions(secrecy.permissions());
+                file.sync_all().map_err(failure)?;
                 Ok(Pending::Written(path.clone(), Written(temporary)))
             }
         }
@@ -168,21 +200,17 @@ impl<'a> Pending<'a> {
 }
 
 /// Writes a new file in the folder of `path`.
-fn write_beside(path: &Path, bytes: &[u8], permissions: Option<fs::Permissions>) -> io::Result<Temporary> {
+fn write_beside(path: &Path, bytes: &[u8]) -> io::Result<(File, Temporary)> {
     if path.file_name().is_none() {
         return Err(io::ErrorKind::InvalidInput.into());
     }
     let folder = path.parent().filter(|folder| !folder.as_os_str().is_empty()).unwrap_or(Path::new("."));
     let (mut file, temporary) = Temporary::create(folder)?;
     file.write_all(bytes)?;
-    if let Some(permissions) = permissions {
-        file.set_permissions(permissions)?;
-    }
-    file.sync_all()?;
-    Ok(temporary)
+    Ok((file, temporary))
 }
 
-/// Writes one output.
+/// Writes one output that is no secret.
 pub fn save(sink: &Sink, bytes: &[u8]) -> Result<(), Failure> {
-    Pending::new(sink, bytes)?.commit()
+    Pending::new(sink, bytes, Secrecy::Open)?.commit()
 }

@@ -23,6 +23,7 @@ mod report;
 mod style;
 mod survey;
 mod svg;
+mod system;
 mod trace;
 mod words;
 

@@ -3,7 +3,7 @@
 use super::args::{Grammar, Options};
 use super::explain::{Secrets, Told};
 use super::failure::{Failure, Status};
-use super::files::{Pending, Sink, Source};
+use super::files::{Pending, Secrecy, Sink, Source};
 use super::load::{List, Memory};
 use super::only::Only;
 use super::pair::{Call, Pair, Step};
@@ -126,8 +126,8 @@ impl Outputs {
 
     /// Writes both whole before either stands in its place.
     fn write(&self, answers: &[u8], memory: &[u8]) -> Result<(), Failure> {
-        let answers = self.answers.as_ref().map(|sink| Pending::new(sink, answers)).transpose()?;
-        let dump = self.dump.as_ref().map(|sink| Pending::new(sink, memory)).transpose()?;
+        let answers = self.answers.as_ref().map(|sink| Pending::new(sink, answers, Secrecy::Open)).transpose()?;
+        let dump = self.dump.as_ref().map(|sink| Pending::new(sink, memory, Secrecy::Secret)).transpose()?;
         for pending in [answers, dump].into_iter().flatten() {
             pending.commit()?;
         }
