@@ -77,6 +77,11 @@ impl Pair {
         &self.proved
     }
 
+    /// The same, where nothing more is replayed.
+    pub fn into_memory(self) -> Vec<u8> {
+        self.proved
+    }
+
     /// Makes one call and gives its answers. `each` is told every record.
     pub fn replay<E>(&mut self, records: &[u8], mut each: E) -> Result<Vec<u8>, Failure>
     where

@@ -9,10 +9,12 @@ use super::only::Only;
 use super::pair::{Call, Pair, Step};
 use super::report::{Entry, Format, Report};
 use super::style::Style;
+use super::system;
 use mitrophel::call::gmch_replay;
 use mitrophel::record::RECORD_BYTES;
 use std::ffi::OsString;
 use std::io::{self, IsTerminal, Write};
+use std::ops::Range;
 
 const GRAMMAR: Grammar = Grammar {
     command: "replay",
@@ -44,12 +46,14 @@ fn run_by(words: &[OsString], call: Call) -> Result<Status, Failure> {
     let mut pair = Pair::by(board, [memory.fresh(), memory.fresh()], call);
     let mut out = io::BufWriter::new(io::stdout().lock());
     let mut answers = Vec::new();
+    let mut guarded = Guarded::default();
     if let Some(printer) = &printer {
         printer.report.start(&mut out)?;
     }
     for call in calls {
         let first = call.start / RECORD_BYTES;
         answers.extend(pair.replay(&list.records[call], |step| {
+            guarded.note(step);
             if let Some(printer) = &printer {
                 printer.record(&mut out, &list, first + step.index, step)?;
             }
@@ -58,7 +62,7 @@ fn run_by(words: &[OsString], call: Call) -> Result<Status, Failure> {
     }
     out.flush()?;
     drop(out);
-    outputs.write(&answers, pair.memory())?;
+    outputs.write(&answers, pair.into_memory(), &guarded)?;
     Ok(Status::Done)
 }
 
@@ -99,10 +103,40 @@ impl Printer {
     }
 }
 
+/// What of a replay is not for everybody.
+#[derive(Default)]
+struct Guarded {
+    /// Memory that was protected at some time.
+    ranges: Vec<Range<u32>>,
+    /// An answer holds a value of protected memory.
+    answers: bool,
+}
+
+impl Guarded {
+    fn note(&mut self, step: &Step<'_, '_>) {
+        self.answers |= step.protected && step.record.kind().is_some_and(|kind| !kind.is_write());
+        for range in step.hub.protected_ranges() {
+            if !range.is_empty() && !self.ranges.contains(&range) {
+                self.ranges.push(range);
+            }
+        }
+    }
+}
+
+fn secrecy(secret: bool) -> Secrecy {
+    if secret {
+        Secrecy::Secret
+    } else {
+        Secrecy::Open
+    }
+}
+
 /// `--answers` and `--dump`
 struct Outputs {
     answers: Option<Sink>,
     dump: Option<Sink>,
+    /// `--redact`: the dump has zeros where memory was protected.
+    redact: bool,
 }
 
 impl Outputs {
@@ -110,7 +144,11 @@ impl Outputs {
         let outputs = Outputs {
             answers: options.value("--answers").map(Sink::named),
             dump: options.value("--dump").map(Sink::named),
+            redact: options.has("--redact"),
         };
+        if outputs.redact && outputs.dump.is_none() {
+            return Err(options.usage("--redact is about the dump: give --dump FILE"));
+        }
         if outputs.answers.is_some() && outputs.answers == outputs.dump {
             return Err(options.usage("--answers and --dump name the same file"));
         }
@@ -125,9 +163,16 @@ impl Outputs {
     }
 
     /// Writes both whole before either stands in its place.
-    fn write(&self, answers: &[u8], memory: &[u8]) -> Result<(), Failure> {
-        let answers = self.answers.as_ref().map(|sink| Pending::new(sink, answers, Secrecy::Open)).transpose()?;
-        let dump = self.dump.as_ref().map(|sink| Pending::new(sink, memory, Secrecy::Secret)).transpose()?;
+    fn write(&self, answers: &[u8], mut memory: Vec<u8>, guarded: &Guarded) -> Result<(), Failure> {
+        if self.redact {
+            guarded.ranges.iter().for_each(|range| memory[range.start as usize..range.end as usize].fill(0));
+        }
+        let holds_secrets = !self.redact && !guarded.ranges.is_empty();
+        let pending = |sink: &Option<Sink>, bytes, secret| {
+            sink.as_ref().map(|sink| Pending::new(sink, bytes, secrecy(secret))).transpose()
+        };
+        let answers = pending(&self.answers, answers, guarded.answers)?;
+        let dump = pending(&self.dump, &memory, holds_secrets)?;
         for pending in [answers, dump].into_iter().flatten() {
             pending.commit()?;
         }
