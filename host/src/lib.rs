@@ -3,7 +3,8 @@
 //!
 //! The model is one C function, which replays a list of records from a cold start and answers each.
 //! [`record`] writes and reads the lists, [`call`] makes the call, and [`reference`] is the same
-//! replay in ordinary Rust, written from the papers alone, to compare the model with.
+//! replay in ordinary Rust, written from the papers alone, to compare the model with. [`trace`] is the
+//! lists as text, one access a line.
 //!
 //! The whole case of document 01: select register 0 of device 0, then read its two ids.
 //!
@@ -31,6 +32,7 @@ pub mod faults;
 mod faults;
 pub mod record;
 pub mod reference;
+pub mod trace;
 
 pub use board::Board;
 pub use call::{is_memory_length, replay, replay_records, WrongArgument};

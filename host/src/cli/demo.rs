@@ -43,8 +43,7 @@ pub fn run(words: &[OsString]) -> Result<Status, Failure> {
     let options = GRAMMAR.parse(words)?;
     let style = Style::new(options.colour()?);
     let glyphs = if options.has("--ascii") { Glyphs::Ascii } else { Glyphs::of_locale() };
-    let sample = trace::assemble(SAMPLE)
-        .map_err(|errors| Failure::disagreement(trace::report("the sample", SAMPLE, &errors)))?;
+    let sample = trace::assemble(SAMPLE).map_err(|errors| Failure::disagreement(errors.to_string()))?;
     let first = Run::of(&sample.records)?;
     let second = Run::of(&first.other_key())?;
 
@@ -56,7 +55,7 @@ pub fn run(words: &[OsString]) -> Result<Status, Failure> {
         if line.starts_with("#= ") {
             teller.column = outcome_column(&lines[number + 1..]);
         }
-        teller.line(line, last_record(&sample.lines, number + 1))?;
+        teller.line(line, last_record(&sample.places, number + 1))?;
     }
     teller.two_keys(&second)?;
     let checked = teller.checked;
@@ -66,8 +65,8 @@ pub fn run(words: &[OsString]) -> Result<Status, Failure> {
 }
 
 /// The last record that a line made.
-fn last_record(lines: &[u32], number: usize) -> Option<usize> {
-    lines.iter().rposition(|&line| line as usize == number)
+fn last_record(places: &[trace::Place], number: usize) -> Option<usize> {
+    places.iter().rposition(|place| place.line as usize == number)
 }
 
 /// Where outcomes start in a part, whose lines these begin with.

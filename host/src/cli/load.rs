@@ -5,6 +5,8 @@ use super::failure::Failure;
 use super::files::Source;
 use super::{numbers, pair, trace};
 use mitrophel::record::{MAX_RECORDS, RECORD_BYTES};
+use mitrophel::trace::Place;
+use std::fs;
 use std::ops::Range;
 
 /// The two forms of a list.
@@ -33,10 +35,11 @@ impl Form {
 
 /// A list of records and where each came from.
 pub struct List {
-    name: String,
+    /// The list's own name first, then what it includes.
+    files: Vec<String>,
     pub records: Vec<u8>,
-    /// The line of each record of a text trace.
-    lines: Option<Vec<u32>>,
+    /// The place of each record of a text trace; of a binary list, nothing.
+    places: Vec<Place>,
 }
 
 impl List {
@@ -52,27 +55,29 @@ impl List {
     /// A text trace.
     pub fn text(name: String, bytes: &[u8]) -> Result<List, Failure> {
         let text = String::from_utf8_lossy(bytes);
-        let assembled =
-            trace::assemble(&text).map_err(|errors| Failure::trace(trace::report(&name, &text, &errors)))?;
-        Ok(List { name, records: assembled.records, lines: Some(assembled.lines) })
+        let assembled = trace::assemble_with(&name, &text, &mut |path| {
+            fs::read(path).map(|bytes| String::from_utf8_lossy(&bytes).into_owned())
+        });
+        let assembled = assembled.map_err(|errors| Failure::trace(errors.to_string()))?;
+        Ok(List { files: assembled.files, records: assembled.records, places: assembled.places })
     }
 
     pub fn binary(name: String, records: Vec<u8>) -> Result<List, Failure> {
         whole_records(&name, records.len() as u64)?;
-        Ok(List { name, records, lines: None })
+        Ok(List { files: vec![name], records, places: Vec::new() })
     }
 
     /// The place of a record, from 0: `FILE:LINE` or `FILE: record 3`.
     pub fn place(&self, index: usize) -> String {
-        match self.lines.as_ref().and_then(|lines| lines.get(index)) {
-            Some(line) => format!("{}:{line}", self.name),
-            None => format!("{}: record {}", self.name, numbers::grouped(index as u64 + 1)),
+        match self.places.get(index) {
+            Some(place) => format!("{}:{}", self.files[place.file as usize], place.line),
+            None => format!("{}: record {}", self.files[0], numbers::grouped(index as u64 + 1)),
         }
     }
 
     /// The file and the line of a record, from 0; none in the binary form.
     pub fn line(&self, index: usize) -> Option<(&str, u32)> {
-        self.lines.as_ref().and_then(|lines| lines.get(index)).map(|line| (self.name.as_str(), *line))
+        self.places.get(index).map(|place| (self.files[place.file as usize].as_str(), place.line))
     }
 
     /// The bytes of each call that the list needs.
@@ -195,7 +200,7 @@ mod tests {
         for &at in resets {
             records[at] = Record::reset();
         }
-        List { name: "night.rec".to_string(), records: record::encode(&records), lines: None }
+        List::binary("night.rec".to_string(), record::encode(&records)).expect("whole records")
     }
 
     #[test]

@@ -1,6 +1,12 @@
 //! Numbers as people write them: `4096`, `0x1000` or `1000h`, and sizes as `16M`.
 
 /// Why a text is no number.
+///
+/// ```
+/// use mitrophel::trace::numbers::NotANumber;
+///
+/// assert_eq!(NotANumber::Form.expected(), "a number such as 4096, 0x1000 or 1000h");
+/// ```
 #[derive(Clone, Copy, Debug, PartialEq, Eq)]
 pub enum NotANumber {
     /// It has not the form of one.
@@ -20,6 +26,18 @@ impl NotANumber {
 }
 
 /// A number of at most 32 bits: decimal, `0x..` or `..h`.
+///
+/// # Errors
+///
+/// Why it is none.
+///
+/// ```
+/// use mitrophel::trace::numbers::{number, NotANumber};
+///
+/// assert_eq!([number("4096"), number("0x1000"), number("1000h")], [Ok(4096); 3]);
+/// assert_eq!(number("BEEF"), Err(NotANumber::Form));
+/// assert_eq!(number("100000000h"), Err(NotANumber::Large));
+/// ```
 pub fn number(text: &str) -> Result<u32, NotANumber> {
     let (digits, radix) = split(text);
     if digits.is_empty() || !digits.chars().all(|digit| digit.is_digit(radix)) {
@@ -39,7 +57,20 @@ fn split(text: &str) -> (&str, u32) {
     }
 }
 
+/// Two hexadecimal digits.
+pub(super) fn hexadecimal_byte(text: &str) -> Option<u8> {
+    let good = text.len() == 2 && text.bytes().all(|digit| digit.is_ascii_hexdigit());
+    u8::from_str_radix(text, 16).ok().filter(|_| good)
+}
+
 /// A number of bytes: a number, or a decimal number and K, M or G (powers of 1024).
+///
+/// ```
+/// use mitrophel::trace::numbers;
+///
+/// assert_eq!(numbers::size("16M"), Some(16 << 20));
+/// assert_eq!(numbers::size("16MB"), None);
+/// ```
 pub fn size(text: &str) -> Option<u64> {
     let (at, unit) = text.char_indices().next_back()?;
     let shift = match unit.to_ascii_uppercase() {
@@ -55,6 +86,12 @@ pub fn size(text: &str) -> Option<u64> {
 }
 
 /// A size in the largest unit that leaves no remainder: `512 KiB`, `8 MiB`.
+///
+/// ```
+/// use mitrophel::trace::numbers;
+///
+/// assert_eq!(numbers::bytes(1 << 19), "512 KiB");
+/// ```
 pub fn bytes(count: u64) -> String {
     match count {
         0 => "0".to_string(),
@@ -66,6 +103,12 @@ pub fn bytes(count: u64) -> String {
 }
 
 /// A decimal number in groups of three: `65,535`.
+///
+/// ```
+/// use mitrophel::trace::numbers;
+///
+/// assert_eq!(numbers::grouped(65_535), "65,535");
+/// ```
 pub fn grouped(count: u64) -> String {
     let digits = count.to_string();
     let mut text = String::with_capacity(digits.len() + digits.len() / 3);
@@ -79,12 +122,24 @@ pub fn grouped(count: u64) -> String {
 }
 
 /// `1 record`, `2 records`: a count with its noun.
+///
+/// ```
+/// use mitrophel::trace::numbers;
+///
+/// assert_eq!(numbers::counted(1024, "step"), "1,024 steps");
+/// ```
 pub fn counted(count: u64, noun: &str) -> String {
     let ending = if count == 1 { "" } else { "s" };
     format!("{} {noun}{ending}", grouped(count))
 }
 
 /// What a record of this width stores or gave: as many digits as the width has, more if it needs them.
+///
+/// ```
+/// use mitrophel::trace::numbers;
+///
+/// assert_eq!(numbers::data(0x21, 4), "00000021h");
+/// ```
 pub fn data(value: u32, width: u8) -> String {
     let digits = match width {
         1 | 2 | 4 => 2 * usize::from(width),

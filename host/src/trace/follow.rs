@@ -6,8 +6,9 @@
 //! which is why the one undoes the other.
 
 use super::names::Bases;
-use mitrophel::reference::{Gmch, Table, TABLE_WORDS};
-use mitrophel::{Board, Kind, Record};
+use crate::board::Board;
+use crate::record::{Kind, Record};
+use crate::reference::{Gmch, Table, TABLE_WORDS};
 
 /// What the followed hub stands on. No name depends on the board or on the size of its memory.
 pub struct Ground {
@@ -16,17 +17,37 @@ pub struct Ground {
 }
 
 impl Ground {
+    /// A ground for one follower.
     pub fn new() -> Ground {
         Ground { memory: vec![0; 8 << 20], table: Box::new([0; TABLE_WORDS]) }
     }
 }
 
+impl Default for Ground {
+    fn default() -> Ground {
+        Ground::new()
+    }
+}
+
 /// A hub that is given configuration accesses and resets only.
+///
+/// ```
+/// use mitrophel::{record, trace};
+/// use mitrophel::trace::follow::{Follower, Ground};
+///
+/// let setup = trace::assemble("config write dev0.SMRAM 40h\nconfig write dev1.MMADR F0000000h\n")?;
+/// let mut ground = Ground::new();
+/// let mut follower = Follower::new(&mut ground);
+/// record::decode(&setup.records).for_each(|record| follower.note(&record));
+/// assert_eq!(follower.bases().registers, 0xF000_0000);
+/// # Ok::<(), trace::Errors>(())
+/// ```
 pub struct Follower<'m> {
     hub: Gmch<'m>,
 }
 
 impl<'m> Follower<'m> {
+    /// A follower at cold start.
     pub fn new(ground: &'m mut Ground) -> Follower<'m> {
         let hub = Gmch::new(Board::I82810, &mut ground.memory, &mut ground.table);
         Follower { hub: hub.expect("board 0 with 8 MiB is a board") }

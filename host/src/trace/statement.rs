@@ -1,180 +1,24 @@
-//! The text trace: one access a line, turned into records.
-//!
-//! ```text
-//! # comment
-//! out4 CONFIG_ADDRESS 80000070h      in4 CFCh
-//! read4 67FFFCh                      smm read4 700000h      fetch4 1000h
-//! write1 WINDOW+ABCh 55h             write FENCE0 21h       read2 MMIO+2022h
-//! master read4 1000h                 master write4 1000h 7
-//! config write dev0.SMRAM BEh        config read4 dev1.2Ch
-//! entry 10 A0000h                    entries 0..15 100000h
-//! run 1000                           reset
-//! raw 02 04 00 00 F8 0C 00 00 00 00 00 80 00 00 00 00
-//! ```
-//!
-//! A digit after `read`, `write`, `fetch`, `in` and `out` is the width; a register's name gives its own.
+//! One statement turned into records.
 
-use super::follow::{Follower, Ground};
+use super::line::{Fault, Word};
 use super::names::{self, Bases};
-use super::numbers::{self, NotANumber};
-use mitrophel::record::RECORD_BYTES;
-use mitrophel::Record;
+use super::numbers;
+use crate::record::{Record, RECORD_BYTES};
 
-/// More records than any trace has; a bound on what a short text can ask for.
-const MOST_RECORDS: usize = 1 << 24;
-
-/// Errors told at once.
-const MOST_ERRORS: usize = 20;
-
-/// The records of a trace.
-#[derive(Debug, Default)]
-pub struct Assembled {
-    /// The records' bytes.
-    pub records: Vec<u8>,
-    /// The line of each record, from 1.
-    pub lines: Vec<u32>,
-}
-
-/// A line that is no access.
-#[derive(Clone, Debug, PartialEq, Eq)]
-pub struct TraceError {
-    /// From 1.
-    pub line: usize,
-    /// In characters, from 1.
-    pub column: usize,
-    pub message: String,
-}
-
-/// The records of a text trace, or the first errors in it.
-pub fn assemble(text: &str) -> Result<Assembled, Vec<TraceError>> {
-    assemble_within(text, MOST_RECORDS)
-}
-
-/// The same with a bound on the number of records.
-fn assemble_within(text: &str, most: usize) -> Result<Assembled, Vec<TraceError>> {
-    let mut ground = Ground::new();
-    let mut follower = Follower::new(&mut ground);
-    let mut assembled = Assembled::default();
-    let mut errors = Vec::new();
-    for (line, source) in lines(text).enumerate() {
-        let line = line + 1;
-        match statement(source, follower.bases()) {
-            Ok(made) => {
-                for record in &made {
-                    follower.note(record);
-                    assembled.records.extend(record.to_bytes());
-                    assembled.lines.push(line as u32);
-                }
-            }
-            Err(Fault { column, message }) => errors.push(TraceError { line, column, message }),
-        }
-        if assembled.lines.len() > most {
-            let message = format!("expected at most {} records in a trace", numbers::grouped(most as u64));
-            errors.push(TraceError { line, column: 1, message });
-        }
-        if errors.len() == MOST_ERRORS || assembled.lines.len() > most {
-            break;
-        }
-    }
-    if errors.is_empty() {
-        Ok(assembled)
-    } else {
-        Err(errors)
-    }
-}
-
-/// The lines of a trace, without a byte order mark.
-fn lines(text: &str) -> impl Iterator<Item = &str> {
-    text.strip_prefix('\u{FEFF}').unwrap_or(text).lines()
-}
-
-/// Errors in the form of a compiler's: `FILE:LINE:COLUMN: MESSAGE`, the line, and a mark below it.
-pub fn report(file: &str, text: &str, errors: &[TraceError]) -> String {
-    let mut report = String::new();
-    for error in errors {
-        let TraceError { line, column, message } = error;
-        report.push_str(&format!("{file}:{line}:{column}: {message}\n"));
-        let source = lines(text).nth(line - 1).unwrap_or_default();
-        if source.chars().count() <= 200 {
-            let shown: String = source.chars().map(visible).collect();
-            let below: String = source.chars().take(column - 1).map(|c| if c == '\t' { '\t' } else { ' ' }).collect();
-            report.push_str(&format!("    {shown}\n    {below}^\n"));
-        }
-    }
-    if errors.len() >= MOST_ERRORS {
-        report.push_str(&format!("{file}: stopped after {MOST_ERRORS} errors\n"));
-    }
-    report.truncate(report.trim_end().len());
-    report
-}
-
-/// A character as it may be shown on a terminal.
-fn visible(c: char) -> char {
-    if c.is_control() && c != '\t' {
-        '\u{FFFD}'
-    } else {
-        c
-    }
-}
-
-/// What is wrong in a line, and where.
-struct Fault {
-    column: usize,
-    message: String,
-}
-
-#[derive(Clone, Copy)]
-struct Word<'a> {
-    text: &'a str,
-    column: usize,
-}
-
-impl Word<'_> {
-    fn expected(&self, what: &str) -> Fault {
-        let shown: String = self.text.chars().take(40).map(visible).collect();
-        let found = match self.text.chars().count() {
-            0 => "nothing".to_string(),
-            1..=40 => format!("'{shown}'"),
-            _ => format!("'{shown}..'"),
-        };
-        Fault { column: self.column, message: format!("expected {what}, found {found}") }
-    }
-
-    fn number(&self, what: &str) -> Result<u32, Fault> {
-        numbers::number(self.text).map_err(|why| match why {
-            NotANumber::Form => self.expected(&format!("{what}, {}", why.expected())),
-            NotANumber::Large => self.expected(why.expected()),
-        })
-    }
-}
-
-/// The words of one line, left to right.
-struct Words<'a> {
+/// The words of one statement, left to right.
+pub(super) struct Words<'a> {
     words: std::vec::IntoIter<Word<'a>>,
     /// The column past the last word.
     end: usize,
 }
 
 impl<'a> Words<'a> {
-    fn of(line: &'a str) -> Words<'a> {
-        let code = line.split('#').next().unwrap_or_default();
-        let mut words = Vec::new();
-        let mut start = None;
-        for (column, (at, c)) in code.char_indices().chain([(code.len(), ' ')]).enumerate() {
-            match (c.is_whitespace(), start) {
-                (true, Some((from, first))) => {
-                    words.push(Word { text: &code[from..at], column: first + 1 });
-                    start = None;
-                }
-                (false, None) => start = Some((at, column)),
-                _ => {}
-            }
-        }
+    pub fn of(words: Vec<Word<'a>>) -> Words<'a> {
         let end = words.last().map_or(1, |word| word.column + word.text.chars().count());
         Words { words: words.into_iter(), end }
     }
 
-    fn next(&mut self, what: &str) -> Result<Word<'a>, Fault> {
+    pub fn next(&mut self, what: &str) -> Result<Word<'a>, Fault> {
         let message = || format!("expected {what}, found the end of the line");
         self.words.next().ok_or_else(|| Fault { column: self.end, message: message() })
     }
@@ -183,7 +27,7 @@ impl<'a> Words<'a> {
         self.next(what)?.number(what)
     }
 
-    fn finish(mut self) -> Result<(), Fault> {
+    pub fn finish(mut self) -> Result<(), Fault> {
         match self.words.next() {
             None => Ok(()),
             Some(word) => Err(word.expected("the end of the line")),
@@ -191,16 +35,11 @@ impl<'a> Words<'a> {
     }
 }
 
-const STATEMENTS: &str =
+pub(super) const STATEMENTS: &str =
     "an access (in, out, read, fetch, write, smm, master, config, entry, entries, run, reset or raw)";
 
-/// The records of one line.
-fn statement(line: &str, bases: Bases) -> Result<Vec<Record>, Fault> {
-    let mut words = Words::of(line);
-    if words.words.len() == 0 {
-        return Ok(Vec::new());
-    }
-    let word = words.next(STATEMENTS)?;
+/// The records of a statement that starts with this word.
+pub(super) fn records(word: Word<'_>, mut words: Words<'_>, bases: Bases) -> Result<Vec<Record>, Fault> {
     let records = match word.text.to_ascii_lowercase().as_str() {
         "smm" => vec![processor(words.next("read, fetch or write")?, &mut words, bases, true)?],
         "master" => vec![master(&mut words, bases)?],
@@ -440,15 +279,17 @@ fn raw(words: &mut Words<'_>) -> Result<Record, Fault> {
     for (at, byte) in bytes.iter_mut().enumerate() {
         let what = format!("byte {at} of 16, two hexadecimal digits");
         let word = words.next(&what)?;
-        let good = word.text.len() == 2 && word.text.chars().all(|digit| digit.is_ascii_hexdigit());
-        *byte = u8::from_str_radix(word.text, 16).ok().filter(|_| good).ok_or_else(|| word.expected(&what))?;
+        *byte = numbers::hexadecimal_byte(word.text).ok_or_else(|| word.expected(&what))?;
     }
     Ok(Record::from_bytes(&bytes))
 }
 
 #[cfg(test)]
 mod tests {
+    use super::super::assemble::assemble;
+    use super::super::errors::{Errors, TraceError, MOST_ERRORS};
     use super::*;
+    use crate::record::decode;
 
     /// Graphics on, the window at C0000000h, the registers at F0000000h.
     const SETUP: &str = "config write dev0.SMRAM 40h\nconfig write dev1.GMADR C0000000h\n\
@@ -457,12 +298,12 @@ mod tests {
     /// The records of one line after [`SETUP`].
     fn line(text: &str) -> Vec<Record> {
         let text = format!("{SETUP}{text}\n");
-        let assembled = assemble(&text).unwrap_or_else(|errors| panic!("{}", report("test", &text, &errors)));
-        mitrophel::record::decode(&assembled.records).skip(6).collect()
+        let assembled = assemble(&text).unwrap_or_else(|errors| panic!("{errors}"));
+        decode(&assembled.records).skip(6).collect()
     }
 
     fn error(text: &str) -> TraceError {
-        let mut errors = assemble(&format!("{SETUP}{text}")).expect_err(text);
+        let Errors(mut errors) = assemble(&format!("{SETUP}{text}")).expect_err(text);
         assert_eq!(errors.len(), 1, "{text}");
         errors.remove(0)
     }
@@ -554,7 +395,7 @@ mod tests {
             ("read4 \u{e9}\u{e9}+5", 7, "expected an address"),
             ("read4 GT\u{e9}[", 7, "expected an address"),
         ] {
-            let TraceError { line, column: found, message } = error(text);
+            let TraceError { line, column: found, message, .. } = error(text);
             assert_eq!((line, found), (4, column), "{text}: {message}");
             assert!(message.contains(part), "{text}: {message}");
         }
@@ -562,14 +403,14 @@ mod tests {
 
     #[test]
     fn names_follow_the_records_before_them() {
-        let early = assemble("write FENCE0 21h\nread4 WINDOW+0\n").expect_err("no base yet");
+        let Errors(early) = assemble("write FENCE0 21h\nread4 WINDOW+0\n").expect_err("no base yet");
         assert_eq!((early[0].line, early[0].column), (1, 7));
         assert!(early[0].message.contains("MMADR, which is 0 here"), "{}", early[0].message);
         assert!(early[1].message.contains("GMADR, which is 0 here"), "{}", early[1].message);
         let hidden = assemble("config write dev1.MMADR F0000000h\nread FENCE0\n");
-        assert_eq!(hidden.expect_err("device 1 is hidden").len(), 1, "the write went to the hub");
+        assert_eq!(hidden.expect_err("device 1 is hidden").list().len(), 1, "the write went to the hub");
         let reset = format!("{SETUP}read FENCE0\nreset\nread FENCE0\n");
-        assert_eq!(assemble(&reset).expect_err("a reset takes the base away")[0].line, 6);
+        assert_eq!(assemble(&reset).expect_err("a reset takes the base away").list()[0].line, 6);
         let small = line("config write dev0.MISCC 1\nconfig write dev1.GMADR C2000000h\nread4 WINDOW+4");
         assert_eq!(small.last(), Some(&Record::read(0xC200_0004, 4, false)));
     }
@@ -577,34 +418,26 @@ mod tests {
     #[test]
     fn a_report_shows_the_line_and_marks_the_column() {
         let text = "reset\n\tread4 FOO # why\n";
-        let errors = assemble(text).expect_err("FOO is no address");
-        let report = report("desk.trace", text, &errors);
-        assert!(report.starts_with("desk.trace:2:8: expected an address"), "{report}");
+        let report = assemble(text).expect_err("FOO is no address").to_string();
+        assert!(report.starts_with("trace:2:8: expected an address"), "{report}");
         assert!(report.ends_with("\n    \tread4 FOO # why\n    \t      ^"), "{report}");
         let many = "x\n".repeat(50);
-        assert_eq!(assemble(&many).expect_err("fifty mistakes").len(), MOST_ERRORS);
+        let errors = assemble(&many).expect_err("fifty mistakes");
+        assert_eq!(errors.list().len(), MOST_ERRORS);
+        assert!(errors.to_string().ends_with("\ntrace: stopped after 20 errors"), "{errors}");
     }
 
     #[test]
     fn control_characters_of_a_mistake_are_not_shown() {
         let text = "read4 \u{1b}[31mred\n";
-        let report = report("x", text, &assemble(text).expect_err("an escape is no address"));
+        let report = assemble(text).expect_err("an escape is no address").to_string();
         assert!(!report.contains('\u{1b}'), "{report:?}");
     }
 
     #[test]
     fn a_trace_may_have_a_byte_order_mark_and_other_line_ends() {
         let assembled = assemble("\u{feff}reset\r\n\r\nrun 1\r\n").expect("a good trace");
-        assert_eq!(assembled.lines, [1, 3]);
-    }
-
-    #[test]
-    fn a_short_trace_cannot_ask_for_any_number_of_records() {
-        let text = format!("{SETUP}{}", "entries 0..16383 0\n".repeat(100));
-        assert!(assemble_within(&text, 6 + 100 * 16_384).is_ok());
-        let errors = assemble_within(&text, 50_000).expect_err("too many records");
-        assert_eq!((errors.len(), errors[0].line), (1, 7));
-        assert!(errors[0].message.contains("at most 50,000 records"), "{}", errors[0].message);
+        assert_eq!(assembled.places.iter().map(|place| place.line).collect::<Vec<_>>(), [1, 3]);
     }
 
     /// Traces with characters changed, taken away and put in: no panic, and every error inside its line.
@@ -633,10 +466,9 @@ mod tests {
                 }
             }
             let text: String = text.into_iter().collect();
-            for error in assemble(&text).err().unwrap_or_default() {
-                let length = lines(&text).nth(error.line - 1).expect("a line of the text").chars().count();
+            for error in assemble(&text).err().iter().flat_map(|errors| errors.list()) {
+                let length = error.source.chars().count() as u32;
                 assert!((1..=length + 1).contains(&error.column), "{error:?}");
-                assert!(!report("x", &text, &[error]).is_empty());
             }
         }
     }

@@ -1,0 +1,233 @@
+//! Register values and faults of records in words.
+
+use super::{names, numbers};
+use crate::record::{Kind, Record};
+use crate::reference::{Fence, Lsmm, Smram};
+
+/// SMRAM's fields: `graphics on, 512 KiB taken; TSEG 1 MiB; A0000h-BFFFFh for management mode; locked`.
+///
+/// ```
+/// use mitrophel::{reference::Smram, trace::words};
+///
+/// assert_eq!(words::smram(Smram(0x62)), "graphics on, nothing taken; TSEG 512 KiB; HSEG; locked");
+/// ```
+pub fn smram(smram: Smram) -> String {
+    let mut parts = vec![match (smram.graphics_on(), smram.taken_bytes()) {
+        (false, _) => "graphics off".to_string(),
+        (true, 0) => "graphics on, nothing taken".to_string(),
+        (true, taken) => format!("graphics on, {} taken", numbers::bytes(taken.into())),
+    }];
+    if smram.tseg_bytes() != 0 {
+        parts.push(format!("TSEG {}", numbers::bytes(smram.tseg_bytes().into())));
+    }
+    if smram.hseg_acts() {
+        parts.push("HSEG".to_string());
+    }
+    match smram.lsmm() {
+        Lsmm::Off => {}
+        Lsmm::General => parts.push("A0000h-BFFFFh general memory".to_string()),
+        Lsmm::ManagementCodeReads => parts.push("A0000h-BFFFFh for management code reads".to_string()),
+        Lsmm::ManagementAll => parts.push("A0000h-BFFFFh for management mode".to_string()),
+    }
+    if smram.locked() {
+        parts.push("locked".to_string());
+    }
+    if smram.0 & 1 != 0 {
+        parts.push("error bit set".to_string());
+    }
+    parts.join("; ")
+}
+
+/// A fence register's fields, good or ill-formed.
+///
+/// ```
+/// use mitrophel::{reference::Fence, trace::words};
+///
+/// assert_eq!(words::fence(Fence(0x21)), "512 KiB at 0h, pitch 512");
+/// ```
+pub fn fence(fence: Fence) -> String {
+    if fence.0 & 1 == 0 {
+        return "not valid".to_string();
+    }
+    if let Some(reason) = ill_formed(fence) {
+        return format!("ill-formed: {reason}");
+    }
+    let size = numbers::bytes(fence_size(fence).into());
+    format!("{size} at {:X}h, pitch {}", fence_start(fence), 128 << (fence.0 >> 4 & 7))
+}
+
+/// "Ill-formed: size 7, pitch 6 or 7, walk 1, start no multiple of the size."
+///
+/// ```
+/// use mitrophel::{reference::Fence, trace::words};
+///
+/// assert_eq!(words::ill_formed(Fence(0x61)).as_deref(), Some("pitch code 6"));
+/// assert_eq!(words::ill_formed(Fence(0x21)), None);
+/// ```
+pub fn ill_formed(fence: Fence) -> Option<String> {
+    let (size, pitch) = (fence.0 >> 8 & 7, fence.0 >> 4 & 7);
+    if size == 7 {
+        Some("size code 7".to_string())
+    } else if pitch >= 6 {
+        Some(format!("pitch code {pitch}"))
+    } else if fence.0 >> 12 & 1 != 0 {
+        Some("walk bit 1".to_string())
+    } else if !fence_start(fence).is_multiple_of(fence_size(fence)) {
+        let size = numbers::bytes(fence_size(fence).into());
+        Some(format!("start {:X}h is no multiple of its size, {size}", fence_start(fence)))
+    } else {
+        None
+    }
+}
+
+fn fence_start(fence: Fence) -> u32 {
+    fence.0 & 0x03F8_0000
+}
+
+/// For size codes 0 to 6.
+fn fence_size(fence: Fence) -> u32 {
+    (512 << 10) << (fence.0 >> 8 & 7)
+}
+
+/// A table entry's fields.
+///
+/// ```
+/// use mitrophel::trace::words;
+///
+/// assert_eq!(words::entry(0x000A_0001), "page A0000h");
+/// assert_eq!(words::entry(0x000A_0003), "display cache page A0000h");
+/// ```
+pub fn entry(word: u32) -> String {
+    let page = entry_page(word);
+    match (word & 1, word >> 1 & 3) {
+        (0, _) => "not valid".to_string(),
+        (_, 0 | 3) => format!("page {page:X}h"),
+        (_, 1) => format!("display cache page {page:X}h"),
+        _ => "type 10".to_string(),
+    }
+}
+
+/// The page that a table entry names: "page 29:12".
+///
+/// ```
+/// use mitrophel::trace::words;
+///
+/// assert_eq!(words::entry_page(0xC00A_0001), 0xA_0000);
+/// ```
+pub fn entry_page(word: u32) -> u32 {
+    word & 0x3FFF_F000
+}
+
+/// The value of CF8h in words: what CFCh then reaches.
+///
+/// ```
+/// use mitrophel::trace::words;
+///
+/// assert_eq!(words::selection(0x8000_0070), "selects dev0.SMRAM/MISCC");
+/// ```
+pub fn selection(value: u32) -> String {
+    if value & 1 << 31 == 0 {
+        return "bit 31 is clear: CFCh goes to the hub".to_string();
+    }
+    let (bus, device, function) = (value >> 16 & 0xFF, value >> 11 & 0x1F, value >> 8 & 7);
+    match (bus, device, function) {
+        (0, 0 | 1, 0) => format!("selects {}", config_word(device as usize, value & 0xFC)),
+        _ => format!("selects bus {bus}, device {device}, function {function}: the hub's"),
+    }
+}
+
+/// The configuration registers of one aligned word: `dev0.SMRAM`, or `dev0.70h` where no name starts there.
+fn config_word(device: usize, at: u32) -> String {
+    let rows = names::DEVICES[device & 1].iter();
+    let names: Vec<&str> = rows.filter(|row| row.at & 0xFC == at).map(|row| row.name).collect();
+    match names.as_slice() {
+        [] => format!("dev{device}.{at:02X}h"),
+        names => format!("dev{device}.{}", names.join("/")),
+    }
+}
+
+/// What breaks the layout of a record that [`Record::keeps_layout`] says breaks it.
+///
+/// ```
+/// use mitrophel::{trace::words, Record};
+///
+/// let record = Record { reserved: 5, ..Record::reset() };
+/// assert_eq!(words::layout_fault(&record), "byte 3 is 05h, not 0");
+/// ```
+pub fn layout_fault(record: &Record) -> String {
+    let Some(kind) = record.kind() else {
+        return format!("kind {} is none of 1 to 9", record.kind);
+    };
+    let whose = format!("kind {} ({kind})", record.kind);
+    if record.flags & !Record::MANAGEMENT != 0 {
+        format!("flags are {:02X}h, of which only bit 0 may be set", record.flags)
+    } else if record.is_management() && !kind.is_processor() {
+        format!("{whose} has no management mode")
+    } else if record.reserved != 0 {
+        format!("byte 3 is {:02X}h, not 0", record.reserved)
+    } else if record.tail != 0 {
+        format!("bytes 12-15 are {:X}h, not 0", record.tail)
+    } else if matches!(kind, Kind::Run | Kind::Reset) && record.width != 0 {
+        format!("{whose} has width {}, not 0", record.width)
+    } else if matches!(kind, Kind::Run | Kind::Reset) && record.address != 0 {
+        format!("{whose} has address {:X}h, not 0", record.address)
+    } else if matches!(kind, Kind::IoRead | Kind::IoWrite) && record.address > 0xFFFF {
+        format!("port {:X}h is above FFFFh", record.address)
+    } else {
+        format!("{whose} has data {:X}h, not 0", record.data)
+    }
+}
+
+/// What is wrong with the width of a record that code 2 refuses.
+///
+/// ```
+/// use mitrophel::{trace::words, Record};
+///
+/// let record = Record::read(0x1000, 3, false);
+/// assert_eq!(words::width_fault(&record), "width 3 is none of 1, 2 and 4");
+/// ```
+pub fn width_fault(record: &Record) -> String {
+    match record.width {
+        1 => "1 byte".to_string(),
+        2 | 4 => format!("{} bytes at {:X}h cross an aligned 4-byte word", record.width, record.address),
+        width => format!("width {width} is none of 1, 2 and 4"),
+    }
+}
+
+#[cfg(test)]
+mod tests {
+    use super::*;
+
+    #[test]
+    fn smram_is_said_in_words() {
+        assert_eq!(
+            smram(Smram(0xBE)),
+            "graphics on, 512 KiB taken; TSEG 1 MiB; A0000h-BFFFFh for management mode; locked"
+        );
+        assert_eq!(smram(Smram(0x00)), "graphics off");
+        assert_eq!(smram(Smram(0x51)), "graphics on, nothing taken; HSEG; error bit set");
+        assert_eq!(smram(Smram(0x44)), "graphics on, nothing taken; A0000h-BFFFFh general memory");
+    }
+
+    /// The words and the reference agree on which fences are ill-formed.
+    #[test]
+    fn every_ill_formed_fence_has_a_reason() {
+        for start in 0..128 {
+            for low in 0..0x2000 {
+                let fence = Fence(start << 19 | low & 0x1771);
+                assert_eq!(ill_formed(fence).is_some(), fence.ill_formed(), "{:X}h", fence.0);
+            }
+        }
+        assert_eq!(super::fence(Fence(0x21)), "512 KiB at 0h, pitch 512");
+        assert_eq!(super::fence(Fence(0x0008_0101)), "ill-formed: start 80000h is no multiple of its size, 1 MiB");
+    }
+
+    #[test]
+    fn selections_name_their_registers() {
+        assert_eq!(selection(0x8000_0070), "selects dev0.SMRAM/MISCC");
+        assert_eq!(selection(0x8000_0810), "selects dev1.GMADR");
+        assert_eq!(selection(0x8000_0040), "selects dev0.40h");
+        assert_eq!(selection(0x8003_F800), "selects bus 3, device 31, function 0: the hub's");
+        assert_eq!(selection(0x70), "bit 31 is clear: CFCh goes to the hub");
+    }
+}
