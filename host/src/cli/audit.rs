@@ -106,7 +106,7 @@ impl Audit {
             }
         }
         progress.finish();
-        let status = if total.denied != 0 { Status::Denied } else { failed.unwrap_or(Status::Done) };
+        let status = if total.denied != 0 { Status::Unmet } else { failed.unwrap_or(Status::Done) };
         Ok((total, status))
     }
 

@@ -73,10 +73,11 @@ fn asked(step: &Step<'_, '_>, hidden: bool) -> String {
 
 fn outcome(step: &Step<'_, '_>, hidden: bool) -> (Tone, String) {
     let answer = &step.answer;
-    if let Some(refusal) = answer.refusal() {
-        return (Tone::Refused, format!("refused {}: {}", refusal.code(), why(step, refusal)));
-    }
     let (kind, target) = (step.record.kind(), answer.target());
+    if let Some(refusal) = answer.refusal() {
+        let end = if has_run(step) { format!(" ({})", run_end(step)) } else { String::new() };
+        return (Tone::Refused, format!("refused {}: {}{end}", refusal.code(), why(step, refusal)));
+    }
     match (kind, target) {
         (Some(Kind::Run), _) => {
             (Tone::Reached, format!("{}, head {:08X}h", numbers::counted(answer.count.into(), "step"), answer.address))
@@ -252,8 +253,9 @@ fn unknown_instruction(step: &Step<'_, '_>) -> String {
 
 /// The rule that routed an access, or what else there is to say.
 fn reason(step: &Step<'_, '_>) -> String {
-    if step.record.kind() == Some(Kind::Run) && step.answer.code != Refusal::Layout.code() {
-        return run_end(step);
+    if has_run(step) {
+        // A refused run tells its end with the refusal: the steps are part of the answer.
+        return if step.answer.code == 0 { run_end(step) } else { String::new() };
     }
     let Some(rule) = step.rule else { return String::new() };
     let hub = step.hub;
@@ -336,6 +338,11 @@ fn port_reason(step: &Step<'_, '_>) -> String {
         }
         _ => "not a port of ours".to_string(),
     }
+}
+
+/// Whether the parser ran, if only up to a refusal.
+fn has_run(step: &Step<'_, '_>) -> bool {
+    step.record.kind() == Some(Kind::Run) && step.answer.code != Refusal::Layout.code()
 }
 
 /// Why a run ended.

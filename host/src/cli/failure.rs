@@ -9,8 +9,8 @@ use std::path::Path;
 pub enum Status {
     /// All was done.
     Done = 0,
-    /// `audit` saw a refusal that `--deny` names.
-    Denied = 1,
+    /// A check that was asked for failed: `audit --deny`, `replay --check`, `compare`.
+    Unmet = 1,
     /// The command line is wrong.
     Usage = 2,
     /// An input is malformed, or cannot be replayed as it stands.

@@ -5,7 +5,7 @@ use super::failure::Failure;
 use super::files::Source;
 use super::{numbers, pair, trace};
 use mitrophel::record::{MAX_RECORDS, RECORD_BYTES};
-use mitrophel::trace::Place;
+use mitrophel::trace::{Assembled, Expectation, Place};
 use std::fs;
 use std::ops::Range;
 
@@ -40,15 +40,20 @@ pub struct List {
     pub records: Vec<u8>,
     /// The place of each record of a text trace; of a binary list, nothing.
     places: Vec<Place>,
+    expectations: Vec<Expectation>,
 }
 
 impl List {
     /// Reads a list. Its form is told by its content unless it is given.
     pub fn read(source: &Source, form: Option<Form>) -> Result<List, Failure> {
-        let bytes = source.read()?;
+        List::of(source.name(), source.read()?, form)
+    }
+
+    /// The same, of what was read.
+    pub fn of(name: String, bytes: Vec<u8>, form: Option<Form>) -> Result<List, Failure> {
         match form.unwrap_or_else(|| Form::of(&bytes)) {
-            Form::Text => List::text(source.name(), &bytes),
-            Form::Binary => List::binary(source.name(), bytes),
+            Form::Text => List::text(name, &bytes),
+            Form::Binary => List::binary(name, bytes),
         }
     }
 
@@ -59,25 +64,51 @@ impl List {
             fs::read(path).map(|bytes| String::from_utf8_lossy(&bytes).into_owned())
         });
         let assembled = assembled.map_err(|errors| Failure::trace(errors.to_string()))?;
-        Ok(List { files: assembled.files, records: assembled.records, places: assembled.places })
+        let Assembled { records, places, files, expectations, .. } = assembled;
+        Ok(List { files, records, places, expectations })
     }
 
     pub fn binary(name: String, records: Vec<u8>) -> Result<List, Failure> {
         whole_records(&name, records.len() as u64)?;
-        Ok(List { files: vec![name], records, places: Vec::new() })
+        Ok(List { files: vec![name], records, places: Vec::new(), expectations: Vec::new() })
     }
 
     /// The place of a record, from 0: `FILE:LINE` or `FILE: record 3`.
     pub fn place(&self, index: usize) -> String {
-        match self.places.get(index) {
-            Some(place) => format!("{}:{}", self.files[place.file as usize], place.line),
+        match self.line(index) {
+            Some((file, line)) => format!("{file}:{line}"),
             None => format!("{}: record {}", self.files[0], numbers::grouped(index as u64 + 1)),
         }
     }
 
     /// The file and the line of a record, from 0; none in the binary form.
     pub fn line(&self, index: usize) -> Option<(&str, u32)> {
-        self.places.get(index).map(|place| (self.files[place.file as usize].as_str(), place.line))
+        self.places.get(index).map(|place| self.named(*place))
+    }
+
+    /// The name of a place's file, and its line.
+    pub fn named(&self, place: Place) -> (&str, u32) {
+        (&self.files[place.file as usize], place.line)
+    }
+
+    pub fn name(&self) -> &str {
+        &self.files[0]
+    }
+
+    pub fn expectations(&self) -> &[Expectation] {
+        &self.expectations
+    }
+
+    /// The statements of the trace itself that have records, with their places.
+    pub fn statements(&self) -> Vec<(Place, Range<usize>)> {
+        let mut statements: Vec<(Place, Range<usize>)> = Vec::new();
+        for (index, &place) in self.places.iter().enumerate().filter(|(_, place)| place.file == 0) {
+            match statements.last_mut().filter(|(last, _)| *last == place) {
+                Some((_, records)) => records.end = index + 1,
+                None => statements.push((place, index..index + 1)),
+            }
+        }
+        statements
     }
 
     /// The bytes of each call that the list needs.

@@ -4,6 +4,7 @@ mod args;
 mod audit;
 mod convert;
 mod demo;
+mod expect;
 mod explain;
 mod failure;
 mod files;

@@ -1,10 +1,12 @@
 //! `replay`.
 
 use super::args::{Grammar, Options};
+use super::expect::Expectations;
 use super::explain::{Secrets, Told};
 use super::failure::{Failure, Status};
-use super::files::{Pending, Secrecy, Sink, Source};
+use super::files::{self, Pending, Secrecy, Sink, Source};
 use super::load::{List, Memory};
+use super::numbers;
 use super::only::Only;
 use super::pair::{Call, Pair, Step};
 use super::report::{Entry, Format, Report};
@@ -19,7 +21,18 @@ use std::ops::Range;
 const GRAMMAR: Grammar = Grammar {
     command: "replay",
     values: &["--board", "--memory", "--image", "--only", "--answers", "--dump", "--color"],
-    switches: &["--json", "--csv", "--lines", "--show-protected", "--redact", "--text", "--binary"],
+    switches: &[
+        "--check",
+        "--bless",
+        "--reasons",
+        "--json",
+        "--csv",
+        "--lines",
+        "--show-protected",
+        "--redact",
+        "--text",
+        "--binary",
+    ],
     files: 1,
 };
 
@@ -34,36 +47,114 @@ fn run_by(words: &[OsString], call: Call) -> Result<Status, Failure> {
     let board = options.board()?;
     let form = options.form()?;
     let source = options.source()?;
-    let printer = Printer::given(&options)?;
+    let task = Task::given(&options, &source)?;
     let outputs = Outputs::given(&options)?;
     if source == Source::Standard && options.value("--image").is_some_and(|file| file == "-") {
         return Err(options.usage("FILE and --image cannot both be standard input"));
     }
     let memory = Memory::given(&options)?;
-    let list = List::read(&source, form)?;
+    let bytes = source.read()?;
+    let text = matches!(task, Task::Bless { .. }).then(|| bytes.clone());
+    let list = List::of(source.name(), bytes, form)?;
     let calls = list.calls()?;
+    let mut expectations = task.expectations(&list)?;
 
     let mut pair = Pair::by(board, [memory.fresh(), memory.fresh()], call);
     let mut out = io::BufWriter::new(io::stdout().lock());
     let mut answers = Vec::new();
     let mut guarded = Guarded::default();
-    if let Some(printer) = &printer {
+    if let Task::Print(printer) = &task {
         printer.report.start(&mut out)?;
     }
     for call in calls {
         let first = call.start / RECORD_BYTES;
         answers.extend(pair.replay(&list.records[call], |step| {
             guarded.note(step);
-            if let Some(printer) = &printer {
+            expectations.note(first + step.index, step);
+            if let Task::Print(printer) = &task {
                 printer.record(&mut out, &list, first + step.index, step)?;
             }
             Ok(())
         })?);
     }
+    let mut status = Status::Done;
+    match (&task, text) {
+        (Task::Check(style), _) if !expectations.compare(&list, *style, &mut out)? => status = Status::Unmet,
+        (Task::Bless { sink, secrets, reasons }, Some(text)) => {
+            let text = String::from_utf8(text).map_err(|_| Failure::input(format!("{}: not UTF-8", list.name())))?;
+            let (blessed, new) = expectations.blessed(&text, *secrets, *reasons);
+            files::save(sink, blessed.as_bytes())?;
+            writeln!(out, "{}: {} written", list.name(), numbers::counted(new as u64, "new expectation"))?;
+        }
+        _ => {}
+    }
     out.flush()?;
     drop(out);
     outputs.write(&answers, pair.into_memory(), &guarded)?;
-    Ok(Status::Done)
+    Ok(status)
+}
+
+/// What is made of the records and their answers.
+enum Task {
+    /// They are printed.
+    Print(Printer),
+    /// They go to a file, and nothing is printed.
+    Silent,
+    /// They are compared with what the trace expects.
+    Check(Style),
+    /// The trace is written anew with what came.
+    Bless { sink: Sink, secrets: Secrets, reasons: bool },
+}
+
+impl Task {
+    fn given(options: &Options, source: &Source) -> Result<Task, Failure> {
+        let one_of = ["--check", "--bless", "--json", "--csv"];
+        let given: Vec<&str> = one_of.into_iter().filter(|name| options.has(name)).collect();
+        if let [first, second, ..] = given[..] {
+            return Err(options.usage(format!("{first} and {second} exclude each other")));
+        }
+        let printed = ["--only", "--lines"].into_iter().find(|name| options.has(name));
+        if let (true, Some(name)) = (options.has("--check") || options.has("--bless"), printed) {
+            return Err(options.usage(format!("{name} is about what is printed, which {} replaces", given[0])));
+        }
+        if options.has("--reasons") && !options.has("--bless") {
+            return Err(options.usage("--reasons is about what --bless writes"));
+        }
+        let style = Style::new(options.colour()?);
+        let format = match given.first() {
+            Some(&"--check") => return Ok(Task::Check(style)),
+            Some(&"--bless") => {
+                let Source::File(path) = source else {
+                    return Err(options.usage("--bless writes the trace anew: expected a file, found standard input"));
+                };
+                let (secrets, reasons) = (options.secrets(), options.has("--reasons"));
+                return Ok(Task::Bless { sink: Sink::File(path.clone()), secrets, reasons });
+            }
+            Some(&"--json") => Format::Json,
+            Some(_) => Format::Csv,
+            None if options.has("--answers") => return Ok(Task::Silent),
+            None => Format::Text,
+        };
+        let columns = system::columns(1).filter(|_| io::stdout().is_terminal());
+        let report = Report { format, style, columns, lines: options.has("--lines") };
+        Ok(Task::Print(Printer { report, only: Only::given(options)?, secrets: options.secrets() }))
+    }
+
+    /// The expectations that are to be compared or written.
+    fn expectations(&self, list: &List) -> Result<Expectations, Failure> {
+        let own = match self {
+            Task::Print(_) | Task::Silent => return Ok(Expectations::default()),
+            Task::Check(_) | Task::Bless { .. } => Expectations::of(list)?,
+        };
+        match self {
+            Task::Bless { .. } if own.is_empty() => Ok(Expectations::for_each_statement(list)),
+            Task::Check(_) if own.is_empty() => Err(Failure::input(format!(
+                "{}: expected a trace with expectations ('#>'), found none; --bless writes them",
+                list.name()
+            ))),
+            _ => Ok(own),
+        }
+    }
 }
 
 /// What is printed of the records, and how.
@@ -74,24 +165,6 @@ struct Printer {
 }
 
 impl Printer {
-    /// By the options; none where the answers go to a file and nothing was asked to be printed.
-    fn given(options: &Options) -> Result<Option<Printer>, Failure> {
-        let format = match (options.has("--json"), options.has("--csv")) {
-            (true, true) => return Err(options.usage("--json and --csv exclude each other")),
-            (true, false) => Some(Format::Json),
-            (false, true) => Some(Format::Csv),
-            (false, false) => None,
-        };
-        let style = Style::new(options.colour()?);
-        let only = Only::given(options)?;
-        if format.is_none() && options.has("--answers") {
-            return Ok(None);
-        }
-        let columns = system::columns(1).filter(|_| io::stdout().is_terminal());
-        let report = Report { format: format.unwrap_or(Format::Text), style, columns, lines: options.has("--lines") };
-        Ok(Some(Printer { report, only, secrets: options.secrets() }))
-    }
-
     /// Prints a record, counted from 0, if it is of a kind that is told.
     fn record(&self, out: &mut impl Write, list: &List, index: usize, step: &Step<'_, '_>) -> io::Result<()> {
         if !self.only.tells(step) {
