@@ -2,7 +2,7 @@
 
 mod cli;
 
-use cli::{examples, folder, names, run, run_with, word, CLOSED_PIPE, DENIED, DONE, FILE, INPUT, USAGE};
+use cli::{examples, folder, names, run, run_with, word, CLOSED_PIPE, DONE, FILE, INPUT, UNMET, USAGE};
 use mitrophel::reference::{Gmch, TABLE_WORDS};
 use mitrophel::{record, Board, Record};
 use std::fs;
@@ -52,7 +52,7 @@ fn the_manual_page_has_every_option_of_the_help() {
             assert!(!word.starts_with("--") || word == "--help" || page.contains(word), "{command} {word}");
         }
     }
-    for status in [DONE, DENIED, USAGE, INPUT, FILE, 5, CLOSED_PIPE] {
+    for status in [DONE, UNMET, USAGE, INPUT, FILE, 5, CLOSED_PIPE] {
         assert!(page.contains(&format!("\n.B {status}\n")), "exit status {status}");
     }
 }
@@ -263,7 +263,7 @@ fn an_audit_ends_with_status_1_if_a_denied_refusal_was_seen() {
         [&["--deny", "protected"][..], &["--deny=6"], &["--deny", "3,PROTECTED"], &["--deny", "2", "--deny=all"]]
     {
         let run = run(&[&["audit"], deny, &[&fault]].concat());
-        assert_eq!(run.status, DENIED, "{deny:?}");
+        assert_eq!(run.status, UNMET, "{deny:?}");
         let first = format!("mitrophel: {fault}:15: refused 6: entry's page is protected (denied)\n");
         assert!(run.errors.starts_with(&first), "{}", run.errors);
         assert!(run.errors.ends_with(": 11 more denied refusals"), "{}", run.errors);
@@ -292,7 +292,7 @@ fn an_audit_goes_on_after_a_bad_file() {
         assert!(run.errors.contains(part), "{}", run.errors);
     }
     let denied = cli::run(&[&words[..], &["--deny", "6"]].concat());
-    assert_eq!(denied.status, DENIED);
+    assert_eq!(denied.status, UNMET);
     assert_eq!(cli::run(&["audit", &missing]).status, FILE);
 }
 

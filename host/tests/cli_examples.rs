@@ -1,5 +1,6 @@
-//! Every sample trace gives its expected output. `MITROPHEL_WRITE_EXPECTED=1` writes the expected files
-//! anew, to be looked at in a diff.
+//! Every sample trace meets its own expectations, `mitrophel replay --check`; `--bless` writes them anew, to
+//! be looked at in a diff. The demo's tale and the map stand in files beside, which
+//! `MITROPHEL_WRITE_EXPECTED=1` writes.
 
 mod cli;
 
@@ -15,7 +16,7 @@ macro_rules! samples {
 
         $(#[test]
         fn $test() {
-            gives_its_expected_output($trace);
+            meets_its_expectations($trace);
         })*
     };
 }
@@ -40,11 +41,17 @@ samples! {
     the_desk_of_the_demo: "desk",
 }
 
-fn gives_its_expected_output(sample: &str) {
+/// Every statement has an expectation, and every expectation is met.
+fn meets_its_expectations(sample: &str) {
     let trace = examples().join(sample).with_extension("trace");
-    let run = run(&replay(&trace, &word(&trace), &[]));
-    assert_eq!((run.status, run.errors.as_str()), (DONE, ""), "{sample}");
-    expect(&trace.with_extension("expected"), &run.text);
+    let run = run(&replay(&trace, &word(&trace), &["--check"]));
+    let text = fs::read_to_string(&trace).expect("a trace");
+    let assembled = mitrophel::trace::assemble(&text).expect("a good trace");
+    let mut statements = assembled.places;
+    statements.dedup();
+    let count = if sample == "desk" { assembled.expectations.len() } else { statements.len() };
+    let summary = format!("{}: {count} expectations, all met\n", trace.display());
+    assert_eq!((run.status, run.text, run.errors.as_str()), (DONE, summary, ""), "{sample}");
 }
 
 fn traces() -> impl Iterator<Item = PathBuf> {
@@ -99,7 +106,7 @@ fn the_binary_form_of_a_trace_gives_the_same_output() {
         let records = run(&["asm", &word(&trace)]).out;
         let binary = folder.join("list.rec");
         fs::write(&binary, &records).expect("a file is written");
-        let text = fs::read(trace.with_extension("expected")).expect("an expected output");
+        let text = run(&replay(&trace, &word(&trace), &[])).out;
         assert!(run(&replay(&trace, &word(&binary), &[])).out == text, "{}", trace.display());
         assert!(run_with(&replay(&trace, "-", &[]), &records).out == text, "{}", trace.display());
     }

@@ -273,7 +273,8 @@ mod tests {
         assert_eq!(page(Some(78)), page(None));
         let narrow = "     1  read4 A0000h    VGA offset 0h\n          rule 2: LSMM 11, management mode only";
         assert_eq!(page(Some(77)), narrow);
-        let narrower = "     1  read4 A0000h    VGA offset 0h\n          rule 2: LSMM 11, management\n          mode only";
+        let narrower =
+            "     1  read4 A0000h    VGA offset 0h\n          rule 2: LSMM 11, management\n          mode only";
         assert_eq!(page(Some(40)), narrower);
     }
 

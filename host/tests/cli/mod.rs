@@ -9,7 +9,7 @@ use std::process::{Command, Output, Stdio};
 
 /// Exit statuses of the manual page.
 pub const DONE: i32 = 0;
-pub const DENIED: i32 = 1;
+pub const UNMET: i32 = 1;
 pub const USAGE: i32 = 2;
 pub const INPUT: i32 = 3;
 pub const FILE: i32 = 4;

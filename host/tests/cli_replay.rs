@@ -1,0 +1,274 @@
+//! What `replay` prints, checks, writes and keeps to itself.
+
+mod cli;
+
+use cli::{examples, folder, run, run_with, word, DONE, INPUT, UNMET, USAGE};
+use std::fs;
+use std::os::unix::fs::PermissionsExt;
+
+/// A key at A0000h, locked, and a guest that looks for it.
+const KEY: &str = "\
+config write dev0.SMRAM 4Ch
+config write dev1.GMADR C0000000h
+config write dev1.MMADR F0000000h
+config write dev1.PCICMD 2
+smm write4 A0000h 4B455921h
+entry 10 A0000h
+write PGTBL_CTL 1
+config write dev0.SMRAM 4Eh
+read4 A0000h
+read4 WINDOW+A000h
+smm read4 A0000h
+";
+
+#[test]
+fn a_trace_is_a_test() {
+    let trace = "read4 A0000h #> hub\nreset   # and\n    #> registers at their defaults, table zeroed\n";
+    let met = run_with(&["replay", "--check", "-"], trace.as_bytes());
+    assert_eq!((met.status, met.text.as_str()), (DONE, "standard input: 2 expectations, all met\n"));
+
+    let wrong = trace.replace("hub", "memory A0000h = 00000000h");
+    let unmet = run_with(&["replay", "--check", "-"], wrong.as_bytes());
+    let diff = "standard input:1: read4 A0000h\n- memory A0000h = 00000000h\n+ hub\n\
+                standard input: 2 expectations, 1 not met\n";
+    assert_eq!((unmet.status, unmet.text.as_str(), unmet.errors.as_str()), (UNMET, diff, ""));
+}
+
+/// Expectations are compared whole; only the reason may be left out.
+#[test]
+fn an_expectation_is_exact() {
+    for (expectation, status) in [
+        ("memory 1000h = 00000000h", DONE),
+        ("memory 1000h = 00000000h (rule 1: below A0000h)", DONE),
+        ("memory 1000h", UNMET),
+        ("memory 1000h = 00000000h (rule 2)", UNMET),
+        ("memory 1000h = 00000000h, interrupt line up", UNMET),
+    ] {
+        let run = run_with(&["replay", "--check", "-"], format!("read4 1000h #> {expectation}\n").as_bytes());
+        assert_eq!(run.status, status, "{expectation}");
+    }
+}
+
+/// A statement of several records: the first that is refused, else the last; or one expectation for each.
+#[test]
+fn an_expectation_speaks_of_all_records_of_its_line() {
+    let check = |trace: &str| run_with(&["replay", "--check", "-"], trace.as_bytes());
+    assert_eq!(check("config read dev0.VID #> dev0.VID = 8086h\n").status, DONE);
+    let each = "config read dev0.VID #> CF8h is now 80000000h\n#> dev0.VID = 8086h\n";
+    assert_eq!(check(each).status, DONE);
+    let three = check(&format!("{each}#> dev0.VID = 8086h\n"));
+    assert_eq!(three.status, INPUT);
+    assert!(three.errors.contains(":1: expected one expectation, or one for each"), "{}", three.errors);
+    // The second of four entries is written where only two bytes are, and refused.
+    let refused = "raw 05 04 00 00 00 00 00 00 00 00 00 00 01 00 00 00 #> refused 13: bytes 12-15 are 1h, not 0\n";
+    assert_eq!(check(refused).status, DONE);
+}
+
+#[test]
+fn a_trace_without_expectations_is_no_test() {
+    let run = run_with(&["replay", "--check", "-"], b"reset\n");
+    assert_eq!(run.status, INPUT);
+    assert!(run.errors.contains("expected a trace with expectations ('#>'), found none"), "{}", run.errors);
+}
+
+#[test]
+fn bless_writes_what_came_and_nothing_else() {
+    let folder = folder("bless");
+    let trace = folder.join("key.trace");
+    // Line ends of both kinds, a comment, and no end of the last line.
+    let text = KEY.replace("4Eh\n", "4Eh  # locked\r\n");
+    fs::write(&trace, text.trim_end()).expect("a trace");
+    let blessed = run(&["replay", "--bless", &word(&trace)]);
+    assert_eq!((blessed.status, blessed.errors.as_str()), (DONE, ""));
+    assert_eq!(blessed.text, format!("{}: 11 new expectations written\n", trace.display()));
+    let text = fs::read_to_string(&trace).expect("the trace");
+    assert!(text.contains("4Eh  # locked"), "{text}");
+    assert!(text.contains("  #> dev0.SMRAM is now 4Eh\r\nread4 A0000h  "), "{text}");
+    assert!(
+        text.contains("\nread4 WINDOW+A000h                      #> refused 6: entry 10's page A0000h is"),
+        "{text}"
+    );
+    assert!(text.ends_with("#> memory A0000h = \u{B7}\u{B7}"), "{text}");
+    assert!(!text.contains("4B455921h  #"), "{text}");
+    assert_eq!(run(&["replay", "--check", &word(&trace)]).status, DONE);
+
+    // Blessing again changes nothing; a changed expectation alone is written anew, and with its reason if it
+    // had one.
+    run(&["replay", "--bless", &word(&trace)]);
+    assert_eq!(fs::read_to_string(&trace).expect("the trace"), text);
+    let wrong = text.replace("#> VGA offset 0h", "#> hub (rule 9)");
+    fs::write(&trace, &wrong).expect("a trace");
+    run(&["replay", "--bless", &word(&trace)]);
+    let again = text.replace("#> VGA offset 0h", "#> VGA offset 0h (rule 2: LSMM 11, management mode only)");
+    assert_eq!(fs::read_to_string(&trace).expect("the trace"), again);
+    run(&["replay", "--bless", "--reasons", "--show-protected", &word(&trace)]);
+    assert_eq!(fs::read_to_string(&trace).expect("the trace"), again, "expectations that are met stay");
+}
+
+#[test]
+fn bless_renews_only_the_expectations_that_are_there() {
+    let folder = folder("bless-some");
+    let trace = folder.join("some.trace");
+    fs::write(&trace, "reset\nread4 A0000h #>\nreset\n").expect("a trace");
+    let blessed = run(&["replay", "--bless", "--reasons", &word(&trace)]);
+    assert_eq!((blessed.status, blessed.errors.as_str()), (DONE, ""));
+    let text = fs::read_to_string(&trace).expect("the trace");
+    assert_eq!(text, "reset\nread4 A0000h #> hub (rule 2: LSMM 00, shut, graphics off)\nreset\n");
+}
+
+#[test]
+fn check_and_bless_exclude_what_makes_no_sense_beside_them() {
+    for (words, part) in [
+        (&["--check", "--bless", "x"][..], "--check and --bless exclude each other"),
+        (&["--check", "--json", "x"], "--check and --json exclude each other"),
+        (&["--json", "--csv", "x"], "--json and --csv exclude each other"),
+        (&["--check", "--lines", "x"], "--lines is about what is printed, which --check replaces"),
+        (&["--reasons", "x"], "--reasons is about what --bless writes"),
+        (&["--bless", "-"], "--bless writes the trace anew: expected a file"),
+        (&["--redact", "x"], "--redact is about the dump"),
+        (&["--only", "refusd", "x"], "--only: expected refused, answered, memory"),
+    ] {
+        let run = run(&[&["replay"], words].concat());
+        assert_eq!(run.status, USAGE, "{words:?}");
+        assert!(run.errors.contains(part), "{}", run.errors);
+    }
+}
+
+/// What management mode writes and reads in protected memory is not printed in any form.
+#[test]
+fn values_of_protected_memory_are_not_shown() {
+    for form in [&[][..], &["--json"], &["--csv"], &["--lines"]] {
+        let hidden = run_with(&[&["replay", "-"], form].concat(), KEY.as_bytes());
+        assert_eq!(hidden.status, DONE, "{}", hidden.errors);
+        for key in ["4B455921", "4b455921", "1262836001"] {
+            assert!(!hidden.text.contains(key), "{form:?}: {}", hidden.text);
+        }
+        assert!(hidden.text.contains("smm write4 A0000h \u{B7}\u{B7}"), "{form:?}: {}", hidden.text);
+        assert!(hidden.text.contains("memory A0000h = \u{B7}\u{B7}"), "{form:?}: {}", hidden.text);
+        let shown = run_with(&[&["replay", "--show-protected", "-"], form].concat(), KEY.as_bytes());
+        assert!(shown.text.contains("memory A0000h = 4B455921h"), "{form:?}: {}", shown.text);
+        assert!(!shown.text.contains('\u{B7}'), "{form:?}: {}", shown.text);
+    }
+    // The same address is everybody's while SMRAM leaves it open, and so is memory beside it.
+    let open = run_with(&["replay", "-"], b"config write dev0.SMRAM 44h\nsmm write4 A0000h 7\nwrite4 9FFFCh 8\n");
+    assert!(open.text.contains("takes 00000007h") && open.text.contains("takes 00000008h"), "{}", open.text);
+}
+
+#[test]
+fn a_dump_is_whole_and_private_or_redacted_and_open() {
+    let folder = folder("dump");
+    let tseg = "config write dev0.SMRAM BCh\nsmm write4 A0000h 4B455921h\nsmm write4 7FFFFCh 4B455922h\n\
+                write4 9FFFCh 11111111h\nsmm read4 A0000h\nreset\n";
+    let dump = |name: &str, options: &[&str], trace: &str| {
+        let file = folder.join(name);
+        let run = run_with(&[&["replay", "--dump", &word(&file)], options, &["-"]].concat(), trace.as_bytes());
+        assert_eq!(run.status, DONE, "{}", run.errors);
+        let mode = fs::metadata(&file).expect("a dump").permissions().mode() & 0o777;
+        (fs::read(&file).expect("a dump"), mode)
+    };
+    let words = |memory: &[u8]| [0x9_FFFC, 0xA_0000, 0x7F_FFFC].map(|at: usize| memory[at]);
+    let (whole, mode) = dump("whole", &[], tseg);
+    assert_eq!((words(&whole), mode), ([0x11, 0x21, 0x22], 0o600));
+    let (redacted, mode) = dump("redacted", &["--redact"], tseg);
+    assert_eq!(words(&redacted), [0x11, 0, 0]);
+    assert_ne!(mode, 0o600, "nothing in it is a secret");
+    let (_, mode) = dump("open", &[], "write4 1000h 7\n");
+    assert_ne!(mode, 0o600, "nothing in it is a secret");
+
+    let answers = folder.join("answers");
+    run_with(&["replay", "--answers", &word(&answers), "-"], tseg.as_bytes());
+    assert_eq!(fs::metadata(&answers).expect("answers").permissions().mode() & 0o777, 0o600);
+}
+
+#[test]
+fn json_has_one_object_a_record_with_stable_names() {
+    let run = run_with(&["replay", "--json", "-"], b"smm write4 A0000h 7  # \"\nrun 3\n");
+    assert_eq!((run.status, run.errors.as_str()), (DONE, ""));
+    let lines: Vec<&str> = run.text.lines().collect();
+    assert_eq!(
+        lines[0],
+        "{\"record\":1,\"file\":\"standard input\",\"line\":1,\"statement\":\"smm write4 A0000h 00000007h\",\
+         \"kind\":\"write\",\"width\":4,\"smm\":true,\"address\":655360,\"data\":7,\"code\":0,\"refusal\":null,\
+         \"target\":\"hub\",\"interrupt\":false,\"at\":655360,\"value\":0,\"steps\":0,\"outcome\":\"hub\",\
+         \"reason\":\"rule 2: LSMM 00, shut, graphics off\",\"redacted\":false}"
+    );
+    assert!(lines[1].contains("\"line\":2,\"statement\":\"run 3\",\"kind\":\"run\""), "{}", lines[1]);
+    let binary = run_with(&["asm", "-"], b"reset\n").out;
+    let run = run_with(&["replay", "--json", "-"], &binary);
+    assert!(run.text.contains("\"file\":null,\"line\":null,\"statement\":\"reset\""), "{}", run.text);
+}
+
+#[test]
+fn csv_has_a_line_of_names_and_quotes_what_needs_it() {
+    let run = run_with(&["replay", "--csv", "-"], b"run 3\n");
+    let lines: Vec<&str> = run.text.lines().collect();
+    assert_eq!(lines.len(), 2);
+    assert_eq!(lines[0].split(',').count(), 19);
+    assert!(lines[0].starts_with("record,file,line,statement,kind,width,smm,address,data,code,refusal,target,"));
+    assert!(lines[1].starts_with("1,standard input,1,run 3,run,0,false,0,3,0,,none,false,0,0,0,"), "{}", lines[1]);
+    assert!(lines[1].contains("\"0 steps, head 00000000h\",the ring is not enabled,false"), "{}", lines[1]);
+}
+
+/// Each name of `--only` keeps some records of this list and leaves out others.
+#[test]
+fn only_keeps_the_records_that_it_names() {
+    let trace = format!(
+        "{KEY}in4 CF8h\nfetch4 1000h\nmaster write4 1000h 7\nmaster read4 C0000h\nconfig write dev0.SMRAM 4Fh\n\
+         write IER 2\nwrite IMR 0\nread MMIO+2021h\nread4 3\nword 2000h 1000000h 0\nentry 0 2000h\n\
+         write LP_RING_TAIL 8\nwrite LP_RING_LENGTH 1\nrun 2\nreset\nconfig write dev0.SMRAM 30h\nread4 7FFFFCh\n"
+    );
+    let trace = trace.replace("read MMIO", "read2 MMIO");
+    let all = run_with(&["replay", "-"], trace.as_bytes());
+    assert_eq!(all.status, DONE, "{}", all.errors);
+    let names = [
+        "refused",
+        "answered",
+        "memory",
+        "register",
+        "hub",
+        "vga",
+        "mmio",
+        "window",
+        "error",
+        "interrupt",
+        "io",
+        "read",
+        "fetch",
+        "write",
+        "smm",
+        "master",
+        "run",
+        "reset",
+        "6",
+        "protected",
+        "width",
+        "10",
+    ];
+    for name in names {
+        let only = run_with(&["replay", "--only", name, "-"], trace.as_bytes());
+        let (kept, total) = (only.text.lines().count(), all.text.lines().count());
+        assert!(0 < kept && kept < total, "{name}: {kept} of {total}\n{}", all.text);
+        assert!(only.text.lines().all(|line| all.text.contains(line)), "{name}: {}", only.text);
+    }
+    let count = |names: &str| run_with(&["replay", "--only", names, "-"], trace.as_bytes()).text.lines().count();
+    assert_eq!(count("refused,answered"), all.text.lines().count());
+    assert_eq!(count("refused"), 3);
+    assert_eq!(count("6,2"), 2);
+    let refused = run_with(&["replay", "--only", "refused", "-"], trace.as_bytes());
+    assert!(refused.text.lines().all(|line| line.contains("refused ")), "{}", refused.text);
+}
+
+#[test]
+fn lines_stand_beside_the_records() {
+    let run = run_with(&["replay", "--lines", "-"], b"\nreset\nconfig read dev0.VID\n");
+    let starts: Vec<&str> = run.text.lines().map(|line| &line[..15]).collect();
+    assert_eq!(starts, ["     1      2  ", "     2      3  ", "     3      3  "]);
+}
+
+/// The two runs of demand 3 as they are printed: equal, since the key is not shown.
+#[test]
+fn two_keys_print_the_same() {
+    let [first, second] = ["07-two-runs-first.trace", "07-two-runs-second.trace"].map(|name| examples().join(name));
+    let [first, second] = [first, second].map(|trace| run(&["replay", &word(&trace)]).text);
+    assert_eq!(first, second);
+}
