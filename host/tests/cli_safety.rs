@@ -2,11 +2,12 @@
 
 mod cli;
 
-use cli::{folder, names, DONE};
+use cli::{finished, folder, names, run_with, word, DONE, FILE, USAGE};
 use std::ffi::{c_char, c_int, c_uint, CString};
 use std::fs;
+use std::io::Write;
 use std::os::unix::ffi::OsStrExt;
-use std::os::unix::fs::PermissionsExt;
+use std::os::unix::fs::{symlink, PermissionsExt};
 use std::os::unix::process::{CommandExt, ExitStatusExt};
 use std::path::{Path, PathBuf};
 use std::process::{Child, Command, Stdio};
@@ -31,7 +32,9 @@ fn program(mask: c_uint, action: usize) -> Command {
         // SAFETY: in the child, before it becomes the program: both may be called there.
         unsafe {
             umask(mask);
-            SIGNALS.map(|number| signal(number, action));
+            for number in SIGNALS {
+                signal(number, action);
+            }
         }
         Ok(())
     };
@@ -103,7 +106,7 @@ fn a_signal_removes_what_is_not_yet_in_its_place() {
 fn an_ignored_signal_stays_ignored() {
     let folder = folder("ignored");
     let (mut child, _) = waiting(&folder, SIG_IGN);
-    SIGNALS.map(|number| send(&child, number));
+    SIGNALS.iter().for_each(|&number| send(&child, number));
     assert_eq!(fs::read(folder.join("answers")).expect("the answers").len(), 16);
     assert_eq!(child.wait().expect("the program ends").code(), Some(DONE));
     assert_eq!(names(&folder), ["answers", "dump", "trace"]);
@@ -127,4 +130,125 @@ fn a_new_file_has_the_users_mode_and_a_dump_its_owners() {
     fs::set_permissions(folder.join("dump"), fs::Permissions::from_mode(0o644)).expect("permissions");
     run(0, &["replay", "trace", "--dump", "dump"]);
     assert_eq!(mode(&folder.join("dump")), 0o644, "the user's choice is kept");
+}
+
+/// Two outputs that would be one file, however it is spelled, are refused before either is lost.
+#[test]
+fn two_outputs_to_one_file_are_refused() {
+    let folder = folder("one-file");
+    fs::create_dir(folder.join("deep")).expect("a folder");
+    fs::write(folder.join("trace"), "reset\n").expect("a trace");
+    fs::write(folder.join("old"), "old").expect("a file");
+    fs::hard_link(folder.join("old"), folder.join("hard")).expect("a second name");
+    symlink("old", folder.join("link")).expect("a link");
+    symlink("new", folder.join("dangling")).expect("a link to nothing");
+    symlink("../one", folder.join("deep").join("up")).expect("a link");
+    symlink("deep", folder.join("shallow")).expect("a link to a folder");
+    let before = names(&folder);
+    let absolute = word(&folder.join("new"));
+    for (answers, dump) in [
+        ("new", "./new"),
+        ("new", absolute.as_str()),
+        ("new", "deep/../new"),
+        ("new", "dangling"),
+        ("one", "deep/up"),
+        ("deep/new", "shallow/new"),
+        ("old", "hard"),
+        ("old", "link"),
+        ("-", "-"),
+        ("-", "/dev/stdout"),
+        ("/dev/fd/1", "/proc/self/fd/1"),
+    ] {
+        let mut command = cli::program();
+        command.current_dir(&folder).args(["replay", "trace", "--answers", answers, "--dump", dump]);
+        let run = finished(command.output().expect("the program ends"));
+        assert_eq!(run.status, USAGE, "{answers} {dump}");
+        assert!(run.errors.contains("--answers and --dump name the same file"), "{answers} {dump}: {}", run.errors);
+        assert_eq!(names(&folder), before, "{answers} {dump}");
+        assert_eq!(fs::read(folder.join("old")).expect("the old file"), b"old");
+    }
+}
+
+/// What standard output was sent to is an output too.
+#[test]
+fn an_output_does_not_replace_the_file_that_is_printed_to() {
+    let folder = folder("printed");
+    fs::write(folder.join("trace"), "reset\n").expect("a trace");
+    for (words, part) in [
+        (&["replay", "trace", "--dump", "out"][..], "--dump names the file that the answers are printed to"),
+        (&["replay", "trace", "--answers", "-", "--dump", "./out"], "--answers and --dump name the same file"),
+        (&["map", "--svg", "out"], "--svg names the file that the map is printed to"),
+    ] {
+        let out = fs::File::create(folder.join("out")).expect("a file");
+        let mut command = cli::program();
+        command.current_dir(&folder).args(words).stdout(out);
+        let run = finished(command.output().expect("the program ends"));
+        assert_eq!(run.status, USAGE, "{words:?}");
+        assert!(run.errors.contains(part), "{words:?}: {}", run.errors);
+    }
+    let null = ["replay", "--answers", "/dev/null", "--dump", "/dev/null", "-"];
+    assert_eq!(run_with(&null, b"reset\n").status, DONE, "a device takes both");
+}
+
+/// A descriptor is written where it stands: what was there before stays, whatever file it is.
+#[test]
+fn a_descriptor_is_appended_to_and_never_replaced() {
+    let folder = folder("descriptors");
+    let (out, errors) = (folder.join("out"), folder.join("errors"));
+    symlink("/dev/stdout", folder.join("link")).expect("a link");
+    let link = word(&folder.join("link"));
+    for name in ["-", "/dev/stdout", "/dev/fd/1", "/proc/self/fd/1", "/dev/../dev//stdout", link.as_str()] {
+        let (status, appended) = appended(&["asm", "-", "-o", name], &out, &errors);
+        assert_eq!((status, appended), (DONE, [20, 4]), "{name}");
+    }
+    for name in ["/dev/stderr", "/dev/fd/2", "/proc/self/fd/2"] {
+        let (status, appended) = appended(&["asm", "-", "-o", name], &out, &errors);
+        assert_eq!((status, appended), (DONE, [4, 20]), "{name}");
+    }
+    assert_eq!(names(&folder), ["errors", "link", "out"]);
+    let closed = run_with(&["asm", "-", "-o", "/dev/fd/99"], b"reset\n");
+    assert_eq!(closed.status, FILE);
+    assert!(closed.errors.starts_with("mitrophel: /dev/fd/99: No such file"), "{}", closed.errors);
+}
+
+/// The lengths of two files of four bytes that standard output and standard error were appended to.
+fn appended(words: &[&str], out: &Path, errors: &Path) -> (i32, [u64; 2]) {
+    let append = |path: &Path| {
+        fs::write(path, "old\n").expect("a file");
+        fs::File::options().append(true).open(path).expect("the file")
+    };
+    let mut command = cli::program();
+    command.args(words).stdin(Stdio::piped()).stdout(append(out)).stderr(append(errors));
+    let mut child = command.spawn().expect("the program starts");
+    child.stdin.take().expect("a pipe").write_all(b"reset\n").expect("a trace is read");
+    let status = child.wait().expect("the program ends").code().expect("not killed");
+    assert!([out, errors].iter().all(|path| fs::read(path).expect("the file").starts_with(b"old\n")));
+    (status, [out, errors].map(|path| fs::metadata(path).expect("the file").len()))
+}
+
+#[test]
+fn a_link_to_nothing_has_its_file_written_and_a_loop_is_told() {
+    let folder = folder("dangling");
+    fs::create_dir(folder.join("deep")).expect("a folder");
+    symlink("deep/second", folder.join("first")).expect("a link");
+    symlink("../third", folder.join("deep").join("second")).expect("a link");
+    symlink("loop", folder.join("pool")).expect("a link");
+    symlink("pool", folder.join("loop")).expect("a link");
+    symlink("no/file", folder.join("nowhere")).expect("a link");
+    let asm = |name: &str| run_with(&["asm", "-", "-o", &word(&folder.join(name))], b"reset\n");
+    assert_eq!(asm("first").status, DONE);
+    assert_eq!(fs::read(folder.join("third")).expect("the links' file").len(), 16);
+    assert!(fs::symlink_metadata(folder.join("first")).expect("the link").is_symlink());
+    for (name, part) in [
+        ("loop", "loop: too many levels of symbolic links"),
+        ("nowhere", "nowhere: No such file or directory"),
+        ("deep/", "deep/: is a directory"),
+        ("new/", "new/: is a directory"),
+    ] {
+        let run = asm(name);
+        assert_eq!(run.status, FILE, "{name}");
+        assert!(run.errors.ends_with(part), "{name}: {}", run.errors);
+    }
+    assert_eq!(names(&folder), ["deep", "first", "loop", "nowhere", "pool", "third"]);
+    assert_eq!(names(&folder.join("deep")), ["second"]);
 }

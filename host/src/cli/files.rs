@@ -6,7 +6,9 @@ use super::system::{self, Doomed};
 use std::ffi::OsStr;
 use std::fs::{self, File, Permissions};
 use std::io::{self, Read, Write};
-use std::os::unix::fs::{OpenOptionsExt, PermissionsExt};
+use std::os::fd::AsFd;
+use std::os::unix::ffi::OsStrExt;
+use std::os::unix::fs::{FileTypeExt, MetadataExt, OpenOptionsExt, PermissionsExt};
 use std::path::{Path, PathBuf};
 use std::process;
 
@@ -68,19 +70,87 @@ impl Source {
 /// Where output goes.
 #[derive(Clone, Debug, PartialEq, Eq)]
 pub enum Sink {
-    /// `-`
+    /// `-`, or another name of standard output.
     Standard,
     File(PathBuf),
 }
 
 impl Sink {
     pub fn named(name: &OsStr) -> Sink {
-        if name == "-" {
+        if name == "-" || is_standard_output(Path::new(name)) {
             Sink::Standard
         } else {
             Sink::File(name.into())
         }
     }
+
+    /// Whether both end in one file, where one output would take the other's place.
+    pub fn same(&self, other: &Sink) -> bool {
+        let both = (self.identity(), other.identity());
+        (self == other && *self == Sink::Standard) || matches!(both, (Some(own), Some(other)) if own == other)
+    }
+
+    /// What tells a file from others. A device such as /dev/null takes any number of outputs.
+    fn identity(&self) -> Option<Identity> {
+        let (data, path) = match self {
+            Sink::Standard => (File::from(io::stdout().as_fd().try_clone_to_owned().ok()?).metadata(), PathBuf::new()),
+            Sink::File(path) => {
+                let path = resolved(path).ok()?;
+                (fs::metadata(&path), path)
+            }
+        };
+        match data {
+            Ok(data) if data.file_type().is_char_device() => None,
+            Ok(data) => Some(Identity::Node(data.dev(), data.ino())),
+            Err(_) => Some(Identity::Name(path)),
+        }
+    }
+}
+
+#[derive(PartialEq, Eq)]
+enum Identity {
+    /// Device and inode of a file that is there.
+    Node(u64, u64),
+    /// The path of one that is not.
+    Name(PathBuf),
+}
+
+/// As many links as the system follows.
+const MOST_LINKS: usize = 40;
+
+/// The file that an output's name stands for, in a folder without links. Links are followed, one that
+/// names nothing yet too, but not a descriptor's: what it leads to must not be replaced.
+fn resolved(path: &Path) -> io::Result<PathBuf> {
+    let mut path = path.to_path_buf();
+    for _ in 0..MOST_LINKS {
+        let name = path.as_os_str().as_bytes().rsplit(|byte| *byte == b'/').next().unwrap_or_default();
+        if [&b""[..], b".", b".."].contains(&name) {
+            return Err(io::ErrorKind::IsADirectory.into());
+        }
+        let name = OsStr::from_bytes(name).to_os_string();
+        let folder = path.parent().filter(|folder| !folder.as_os_str().is_empty()).unwrap_or(Path::new("."));
+        let folder = fs::canonicalize(folder)?;
+        path = folder.join(name);
+        match fs::read_link(&path) {
+            Ok(target) if !has_descriptors(&folder) => path = folder.join(target),
+            _ => return Ok(path),
+        }
+    }
+    Err(io::Error::other("too many levels of symbolic links"))
+}
+
+/// Folders whose files are the program's open descriptors; the second is a link to the first on Linux.
+const DESCRIPTORS: [&str; 2] = ["/proc/self/fd", "/dev/fd"];
+
+/// Whether the files of a folder are the open descriptors of a process.
+fn has_descriptors(folder: &Path) -> bool {
+    (folder.starts_with("/proc") && folder.ends_with("fd")) || folder == Path::new(DESCRIPTORS[1])
+}
+
+/// Whether a name is descriptor 1 of this process: `/dev/stdout`, `/dev/fd/1` and so on.
+fn is_standard_output(path: &Path) -> bool {
+    let own = |path: &Path| DESCRIPTORS.iter().any(|own| fs::canonicalize(own).is_ok_and(|own| path == own.join("1")));
+    resolved(path).is_ok_and(|path| own(&path))
 }
 
 /// Who may read an output file that was not there before.
@@ -147,7 +217,7 @@ impl Drop for Temporary {
 /// An output that is written but does not yet stand in its place.
 pub enum Pending<'a> {
     Standard(&'a [u8]),
-    /// A device, a pipe: something that no file may take the place of.
+    /// A device, a pipe, an open descriptor: something that no file may take the place of.
     Direct(PathBuf, &'a [u8]),
     Written(PathBuf, Written),
 }
@@ -160,22 +230,24 @@ impl<'a> Pending<'a> {
     pub fn new(sink: &Sink, bytes: &'a [u8], secrecy: Secrecy) -> Result<Pending<'a>, Failure> {
         let Sink::File(path) = sink else { return Ok(Pending::Standard(bytes)) };
         let failure = |error: io::Error| Failure::file(path, &error);
-        match fs::metadata(path) {
+        // A link's own file is written anew, not the link.
+        let target = resolved(path).map_err(failure)?;
+        match fs::metadata(&target) {
             Ok(data) if data.is_dir() => Err(failure(io::ErrorKind::IsADirectory.into())),
-            Ok(data) if !data.is_file() => Ok(Pending::Direct(path.clone(), bytes)),
+            Ok(data) if !data.is_file() || target.parent().is_some_and(has_descriptors) => {
+                Ok(Pending::Direct(path.clone(), bytes))
+            }
             Ok(data) => {
-                // A link's own file is written anew, not the link.
-                let path = fs::canonicalize(path).map_err(failure)?;
-                let (file, temporary) = write_beside(&path, bytes).map_err(failure)?;
+                let (file, temporary) = write_beside(&target, bytes).map_err(failure)?;
                 file.set_permissions(data.permissions()).and_then(|()| file.sync_all()).map_err(failure)?;
-                Ok(Pending::Written(path, Written(temporary)))
+                Ok(Pending::Written(target, Written(temporary)))
             }
             Err(_) => {
-                let (file, temporary) = write_beside(path, bytes).map_err(failure)?;
+                let (file, temporary) = write_beside(&target, bytes).map_err(failure)?;
                 // Some file systems have no permissions to set.
                 let _ = file.set_permissions(secrecy.permissions());
                 file.sync_all().map_err(failure)?;
-                Ok(Pending::Written(path.clone(), Written(temporary)))
+                Ok(Pending::Written(target, Written(temporary)))
             }
         }
     }
@@ -189,7 +261,7 @@ impl<'a> Pending<'a> {
                 Ok(())
             }
             Pending::Direct(path, bytes) => {
-                let written = File::options().write(true).open(&path).and_then(|mut file| file.write_all(bytes));
+                let written = File::options().append(true).open(&path).and_then(|mut file| file.write_all(bytes));
                 written.map_err(|error| Failure::file(&path, &error))
             }
             Pending::Written(path, Written(temporary)) => {
@@ -199,13 +271,9 @@ impl<'a> Pending<'a> {
     }
 }
 
-/// Writes a new file in the folder of `path`.
-fn write_beside(path: &Path, bytes: &[u8]) -> io::Result<(File, Temporary)> {
-    if path.file_name().is_none() {
-        return Err(io::ErrorKind::InvalidInput.into());
-    }
-    let folder = path.parent().filter(|folder| !folder.as_os_str().is_empty()).unwrap_or(Path::new("."));
-    let (mut file, temporary) = Temporary::create(folder)?;
+/// Writes a new file in the folder of a file.
+fn write_beside(target: &Path, bytes: &[u8]) -> io::Result<(File, Temporary)> {
+    let (mut file, temporary) = Temporary::create(target.parent().unwrap_or(Path::new("/")))?;
     file.write_all(bytes)?;
     Ok((file, temporary))
 }

@@ -45,6 +45,9 @@ pub fn run(words: &[OsString]) -> Result<Status, Failure> {
     let board = options.board()?;
     let style = Style::new(options.colour()?);
     let sink = options.value("--svg").map(Sink::named);
+    if sink.as_ref().is_some_and(|sink| *sink != Sink::Standard && sink.same(&Sink::Standard)) {
+        return Err(options.usage("--svg names the file that the map is printed to"));
+    }
     let memory = Memory::given(&options)?;
     let list = match options.source() {
         Ok(source) => traced(&options, &source)?,

@@ -222,15 +222,17 @@ impl Outputs {
         if outputs.redact && outputs.dump.is_none() {
             return Err(options.usage("--redact is about the dump: give --dump FILE"));
         }
-        if outputs.answers.is_some() && outputs.answers == outputs.dump {
-            return Err(options.usage("--answers and --dump name the same file"));
+        let first = outputs.answers.as_ref().unwrap_or(&Sink::Standard);
+        if outputs.dump.as_ref().is_some_and(|dump| dump.same(first)) {
+            return Err(options.usage(match (&outputs.answers, &outputs.dump) {
+                (Some(_), _) => "--answers and --dump name the same file",
+                (None, Some(Sink::Standard)) => "--dump - needs --answers FILE, since the answers are printed otherwise",
+                (None, _) => "--dump names the file that the answers are printed to",
+            }));
         }
         let standard = [&outputs.answers, &outputs.dump].contains(&&Some(Sink::Standard));
         if standard && io::stdout().is_terminal() {
             return Err(options.usage("answers and memory are no text for a terminal: give a file, or pipe them"));
-        }
-        if outputs.dump == Some(Sink::Standard) && outputs.answers.is_none() {
-            return Err(options.usage("--dump - needs --answers FILE, since the answers are printed otherwise"));
         }
         Ok(outputs)
     }
