@@ -2,10 +2,11 @@
 
 mod cli;
 
-use cli::{finished, folder, names, run_with, word, DONE, FILE, USAGE};
+use cli::{finished, folder, names, run_with, word, CLOSED_PIPE, DONE, FILE, USAGE};
+use mitrophel::{record, Record};
 use std::ffi::{c_char, c_int, c_uint, CString};
 use std::fs;
-use std::io::Write;
+use std::io::{Read, Write};
 use std::os::unix::ffi::OsStrExt;
 use std::os::unix::fs::{symlink, PermissionsExt};
 use std::os::unix::process::{CommandExt, ExitStatusExt};
@@ -251,4 +252,31 @@ fn a_link_to_nothing_has_its_file_written_and_a_loop_is_told() {
     }
     assert_eq!(names(&folder), ["deep", "first", "loop", "nowhere", "pool", "third"]);
     assert_eq!(names(&folder.join("deep")), ["second"]);
+}
+
+/// A reader of the lines or of the answers who leaves, as `head` does, does not keep the dump from being written.
+#[test]
+fn a_dump_is_written_even_if_the_reader_of_the_answers_leaves() {
+    let folder = folder("reader");
+    let mut records = vec![Record::read(0x1000, 4, false); 60_000];
+    records.push(Record::write(0x2000, 4, 0x4B45_5921, false));
+    fs::write(folder.join("list"), record::encode(&records)).expect("a list");
+    for words in [&["replay", "list", "--dump", "dump"][..], &["replay", "list", "--answers", "-", "--dump", "dump"]] {
+        let mut command = cli::program();
+        command.current_dir(&folder).args(words).stdout(Stdio::piped()).stderr(Stdio::piped());
+        let mut child = command.spawn().expect("the program starts");
+        let mut stdout = child.stdout.take().expect("a pipe");
+        stdout.read_exact(&mut [0; 16]).expect("the output's start");
+        drop(stdout);
+        let run = finished(child.wait_with_output().expect("the program ends"));
+        assert_eq!((run.status, run.errors.as_str()), (CLOSED_PIPE, ""), "{words:?}");
+        let dump = fs::read(folder.join("dump")).expect("the dump");
+        assert_eq!(dump[0x2000..0x2004], 0x4B45_5921_u32.to_le_bytes(), "{words:?}");
+        fs::remove_file(folder.join("dump")).expect("the dump goes");
+    }
+    let full = fs::File::options().write(true).open("/dev/full").expect("a device");
+    let mut command = cli::program();
+    command.current_dir(&folder).args(["replay", "list", "--dump", "dump"]).stdout(full);
+    assert_eq!(finished(command.output().expect("the program ends")).status, FILE);
+    assert_eq!(names(&folder), ["list"], "a failure leaves no dump");
 }

@@ -16,6 +16,7 @@ use mitrophel::call::gmch_replay;
 use mitrophel::record::RECORD_BYTES;
 use std::ffi::OsString;
 use std::io::{self, IsTerminal, Write};
+use std::mem;
 use std::ops::Range;
 
 const GRAMMAR: Grammar = Grammar {
@@ -63,35 +64,31 @@ fn run_by(words: &[OsString], call: Call) -> Result<Status, Failure> {
     let mut out = io::BufWriter::new(io::stdout().lock());
     let mut answers = Vec::new();
     let mut guarded = Guarded::default();
-    if let Task::Print(printer) = &task {
-        printer.report.start(&mut out)?;
-    }
+    let mut printed = task.start(&mut out);
     for call in calls {
         let first = call.start / RECORD_BYTES;
         answers.extend(pair.replay(&list.records[call], |step| {
+            let index = first + step.index;
             guarded.note(step);
-            expectations.note(first + step.index, step);
-            if let Task::Print(printer) = &task {
-                printer.record(&mut out, &list, first + step.index, step)?;
+            expectations.note(index, step);
+            if printed.is_ok() {
+                printed = task.record(&mut out, &list, index, step);
+            }
+            if outputs.is_none() {
+                mem::replace(&mut printed, Ok(()))?;
             }
             Ok(())
         })?);
     }
-    let mut status = Status::Done;
-    match (&task, text) {
-        (Task::Check(style), _) if !expectations.compare(&list, *style, &mut out)? => status = Status::Unmet,
-        (Task::Bless { sink, secrets, reasons }, Some(text)) => {
-            let text = String::from_utf8(text).map_err(|_| Failure::input(format!("{}: not UTF-8", list.name())))?;
-            let (blessed, new) = expectations.blessed(&text, *secrets, *reasons);
-            files::save(sink, blessed.as_bytes())?;
-            writeln!(out, "{}: {} written", list.name(), numbers::counted(new as u64, "new expectation"))?;
-        }
-        _ => {}
-    }
-    out.flush()?;
+    let printed = printed.map_err(Failure::from);
+    let printed = printed.and_then(|()| task.conclude(&mut out, &list, &expectations, text));
+    let printed = printed.and_then(|status| Ok(out.flush().map(|()| status)?));
     drop(out);
-    outputs.write(&answers, pair.into_memory(), &guarded)?;
-    Ok(status)
+    // A reader of the lines who leaves before the end wants no more lines; the dump is for another.
+    match printed {
+        Err(failure) if failure.status != Status::ClosedPipe => Err(failure),
+        printed => outputs.write(&answers, pair.into_memory(), &guarded).and(printed),
+    }
 }
 
 /// What is made of the records and their answers.
@@ -138,6 +135,44 @@ impl Task {
         let columns = system::columns(1).filter(|_| io::stdout().is_terminal());
         let report = Report { format, style, columns, lines: options.has("--lines") };
         Ok(Task::Print(Printer { report, only: Only::given(options)?, secrets: options.secrets() }))
+    }
+
+    /// What is printed before the first record.
+    fn start(&self, out: &mut impl Write) -> io::Result<()> {
+        match self {
+            Task::Print(printer) => printer.report.start(out),
+            _ => Ok(()),
+        }
+    }
+
+    /// What is printed of a record, counted from 0.
+    fn record(&self, out: &mut impl Write, list: &List, index: usize, step: &Step<'_, '_>) -> io::Result<()> {
+        match self {
+            Task::Print(printer) => printer.record(out, list, index, step),
+            _ => Ok(()),
+        }
+    }
+
+    /// What is left to do after the last record; `text` is the trace to write anew.
+    fn conclude(
+        &self,
+        out: &mut impl Write,
+        list: &List,
+        expectations: &Expectations,
+        text: Option<Vec<u8>>,
+    ) -> Result<Status, Failure> {
+        match (self, text) {
+            (Task::Check(style), _) if !expectations.compare(list, *style, out)? => return Ok(Status::Unmet),
+            (Task::Bless { sink, secrets, reasons }, Some(text)) => {
+                let not_text = |_| Failure::input(format!("{}: expected UTF-8, since it is written anew", list.name()));
+                let text = String::from_utf8(text).map_err(not_text)?;
+                let (blessed, new) = expectations.blessed(&text, *secrets, *reasons);
+                files::save(sink, blessed.as_bytes())?;
+                writeln!(out, "{}: {} written", list.name(), numbers::counted(new as u64, "new expectation"))?;
+            }
+            _ => {}
+        }
+        Ok(Status::Done)
     }
 
     /// The expectations that are to be compared or written.
@@ -213,6 +248,10 @@ struct Outputs {
 }
 
 impl Outputs {
+    fn is_none(&self) -> bool {
+        self.answers.is_none() && self.dump.is_none()
+    }
+
     fn given(options: &Options) -> Result<Outputs, Failure> {
         let outputs = Outputs {
             answers: options.value("--answers").map(Sink::named),
@@ -237,7 +276,8 @@ impl Outputs {
         Ok(outputs)
     }
 
-    /// Writes both whole before either stands in its place.
+    /// Writes both whole before either stands in its place. A reader of one who leaves does not keep the
+    /// other from being written.
     fn write(&self, answers: &[u8], mut memory: Vec<u8>, guarded: &Guarded) -> Result<(), Failure> {
         if self.redact {
             guarded.ranges.iter().for_each(|range| memory[range.start as usize..range.end as usize].fill(0));
@@ -248,10 +288,14 @@ impl Outputs {
         };
         let answers = pending(&self.answers, answers, guarded.answers)?;
         let dump = pending(&self.dump, &memory, holds_secrets)?;
+        let mut result = Ok(());
         for pending in [answers, dump].into_iter().flatten() {
-            pending.commit()?;
+            match pending.commit() {
+                Err(failure) if failure.status == Status::ClosedPipe => result = Err(failure),
+                committed => committed?,
+            }
         }
-        Ok(())
+        result
     }
 }
 
