@@ -4,7 +4,7 @@ mod cli;
 
 use cli::{finished, folder, names, run_with, word, CLOSED_PIPE, DONE, FILE, USAGE};
 use mitrophel::{record, Record};
-use std::ffi::{c_char, c_int, c_uint, CString};
+use std::ffi::{c_char, c_int, c_uint, CString, OsStr};
 use std::fs;
 use std::io::{Read, Write};
 use std::os::unix::ffi::OsStrExt;
@@ -279,4 +279,67 @@ fn a_dump_is_written_even_if_the_reader_of_the_answers_leaves() {
     command.current_dir(&folder).args(["replay", "list", "--dump", "dump"]).stdout(full);
     assert_eq!(finished(command.output().expect("the program ends")).status, FILE);
     assert_eq!(names(&folder), ["list"], "a failure leaves no dump");
+}
+
+/// A file's name need not be UTF-8, wherever it stands.
+#[test]
+fn names_that_are_no_utf8_are_files() {
+    let folder = folder("bytes");
+    let (trace, output) = (OsStr::from_bytes(b"trace\xFF"), OsStr::from_bytes(b"out\xFE"));
+    fs::write(folder.join(trace), "reset\n").expect("a trace");
+    let glued = |option: &[u8]| OsStr::from_bytes(&[option, output.as_bytes()].concat()).to_os_string();
+    for words in [
+        vec!["replay".into(), glued(b"--answers="), trace.into()],
+        vec!["replay".into(), "--answers".into(), output.into(), trace.into()],
+        vec!["asm".into(), trace.into(), glued(b"-o")],
+        vec!["asm".into(), trace.into(), glued(b"--output=")],
+    ] {
+        let mut command = cli::program();
+        command.current_dir(&folder).args(&words);
+        let run = finished(command.output().expect("the program ends"));
+        assert_eq!((run.status, run.errors.as_str()), (DONE, ""), "{words:?}");
+        assert_eq!(fs::read(folder.join(output)).expect("the output").len(), 16, "{words:?}");
+        fs::remove_file(folder.join(output)).expect("the output goes");
+    }
+}
+
+#[test]
+fn help_may_be_asked_of_help() {
+    let overview = run_with(&["help"], b"").text;
+    for words in [&["help", "--help"][..], &["help", "-h"], &["-h"]] {
+        let run = run_with(words, b"");
+        assert_eq!((run.status, run.text.as_str()), (DONE, overview.as_str()), "{words:?}");
+    }
+    assert_eq!(run_with(&["help", "map", "--help"], b"").text, run_with(&["map", "--help"], b"").text);
+}
+
+/// What the user gives is shown in messages, and never acts on the terminal.
+#[test]
+fn messages_hold_no_control_characters_of_names_and_words() {
+    let folder = folder("control");
+    fs::write(folder.join("\x1b[2Jbad"), "peek\n").expect("a trace");
+    fs::write(folder.join("\x1b[2Jshort"), [0; 17]).expect("a list");
+    for (words, part) in [
+        (&["\x1b[2J"][..], "found '\\x1b[2J'"),
+        (&["help", "\x1b[2J"], "no help on '\\x1b[2J'"),
+        (&["replay", "\x1b[2Jgone"], "\\x1b[2Jgone: No such file"),
+        (&["replay", "\x1b[2Jbad"], "\\x1b[2Jbad:1:1: expected an access"),
+        (&["disasm", "\x1b[2Jshort"], "\\x1b[2Jshort: byte 16"),
+        (&["audit", "\x1b[2Jshort"], "\\x1b[2Jshort: byte 16"),
+        (&["asm", "-", "-o", "no/\x1b[2J"], "no/\\x1b[2J: No such file"),
+        (&["replay", "-", "--dump", "no/\x1b[2J"], "no/\\x1b[2J: No such file"),
+        (&["replay", "--\x1b[2J"], "unknown option '--\\x1b[2J'"),
+        (&["replay", "--board=\x1b[2J", "-"], "found '\\x1b[2J'"),
+        (&["replay", "--memory=\x1b[2J", "-"], "found '\\x1b[2J'"),
+        (&["audit", "--deny=\x1b[2J", "-"], "found '\\x1b[2J'"),
+        (&["replay", "a", "\x1b[2J"], "found '\\x1b[2J' too"),
+        (&["demo", "\x1b[2J"], "found '\\x1b[2J'"),
+    ] {
+        let mut command = cli::program();
+        command.current_dir(&folder).args(words).stdin(Stdio::null());
+        let run = finished(command.output().expect("the program ends"));
+        assert_ne!(run.status, DONE, "{words:?}");
+        assert!(run.errors.contains(part), "{words:?}: {:?}", run.errors);
+        assert!(!run.errors.contains('\x1b'), "{words:?}: {:?}", run.errors);
+    }
 }

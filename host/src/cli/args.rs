@@ -1,13 +1,14 @@
 //! The words of a command line.
 
 use super::explain::Secrets;
-use super::failure::Failure;
+use super::failure::{shown, Failure};
 use super::files::Source;
 use super::load::Form;
 use super::numbers;
 use super::style::Colour;
 use mitrophel::Board;
 use std::ffi::{OsStr, OsString};
+use std::os::unix::ffi::OsStrExt;
 
 /// The options of a command.
 pub struct Grammar {
@@ -35,19 +36,19 @@ const REPEATED: &[&str] = &["--deny", "--only"];
 const SHORT: &[(&str, &str)] = &[("-o", "--output")];
 
 impl Grammar {
-    /// Takes the words after the command apart.
+    /// Takes the words after the command apart. They are bytes: a file's name need not be UTF-8.
     pub fn parse(&self, words: &[OsString]) -> Result<Options, Failure> {
         let mut options = Options { command: self.command, given: Vec::new(), files: Vec::new() };
         let mut words = words.iter();
         while let Some(word) = words.next() {
-            match word.to_str() {
-                Some("--") => options.files.extend(words.by_ref().cloned()),
-                Some(text) if text.len() > 1 && text.starts_with('-') => {
-                    let (name, value) = self.option(text)?;
+            match word.as_bytes() {
+                b"--" => options.files.extend(words.by_ref().cloned()),
+                [b'-', _, ..] => {
+                    let (name, value) = self.option(word)?;
                     let value = if self.switches.contains(&name) {
                         self.no_value(name, value)?
                     } else {
-                        self.some_value(name, value.map(OsString::from).or_else(|| words.next().cloned()))?
+                        self.some_value(name, value.or_else(|| words.next().map(OsString::as_os_str)))?
                     };
                     if options.has(name) && !REPEATED.contains(&name) {
                         return Err(self.usage(format!("{name} is given twice")));
@@ -61,34 +62,40 @@ impl Grammar {
             return Err(self.usage("expected a file, found ''".to_string()));
         }
         match options.files.get(self.files) {
-            Some(file) if self.files == 0 => Err(self.usage(format!("expected no file, found '{}'", file.display()))),
-            Some(file) => Err(self.usage(format!("expected one file, found '{}' too", file.display()))),
+            Some(file) if self.files == 0 => Err(self.usage(format!("expected no file, found '{}'", shown(file)))),
+            Some(file) => Err(self.usage(format!("expected one file, found '{}' too", shown(file)))),
             None => Ok(options),
         }
     }
 
-    fn no_value(&self, name: &str, value: Option<&str>) -> Result<OsString, Failure> {
+    fn no_value(&self, name: &str, value: Option<&OsStr>) -> Result<OsString, Failure> {
         match value {
             None => Ok(OsString::new()),
             Some(_) => Err(self.usage(format!("{name} takes no value"))),
         }
     }
 
-    fn some_value(&self, name: &str, value: Option<OsString>) -> Result<OsString, Failure> {
-        value.filter(|value| !value.is_empty()).ok_or_else(|| self.usage(format!("{name} needs a value")))
+    fn some_value(&self, name: &str, value: Option<&OsStr>) -> Result<OsString, Failure> {
+        let value = value.filter(|value| !value.is_empty()).map(OsStr::to_os_string);
+        value.ok_or_else(|| self.usage(format!("{name} needs a value")))
     }
 
-    /// The option's full name, and the value after `=`.
-    fn option<'a>(&self, text: &'a str) -> Result<(&'static str, Option<&'a str>), Failure> {
-        let (name, value) = match text.split_once('=') {
-            Some((name, value)) => (name, Some(value)),
-            None => (text, None),
+    /// The option's full name, and the value in the same word: after `=`, or after a short option's letter.
+    fn option<'a>(&self, word: &'a OsStr) -> Result<(&'static str, Option<&'a OsStr>), Failure> {
+        let bytes = word.as_bytes();
+        let end = bytes.iter().position(|byte| *byte == b'=').unwrap_or(bytes.len());
+        let short = SHORT.iter().find(|(short, _)| bytes.starts_with(short.as_bytes()));
+        let (name, rest) = match short {
+            Some((short, long)) => (long.as_bytes(), &bytes[short.len()..]),
+            None => bytes.split_at(end),
         };
-        let name = SHORT.iter().find(|(short, _)| *short == name).map_or(name, |(_, long)| *long);
-        let known = self.values.iter().chain(self.switches).find(|known| **known == name);
-        match known {
+        let value = match rest {
+            [] => None,
+            [b'=', value @ ..] | value => Some(OsStr::from_bytes(value)),
+        };
+        match self.values.iter().chain(self.switches).find(|known| known.as_bytes() == name) {
             Some(known) => Ok((known, value)),
-            None => Err(self.usage(format!("unknown option '{name}'"))),
+            None => Err(self.usage(format!("unknown option '{}'", shown(OsStr::from_bytes(&bytes[..end]))))),
         }
     }
 
@@ -149,7 +156,7 @@ impl Options {
     ) -> Result<Option<T>, Failure> {
         let Some(value) = self.value(name) else { return Ok(None) };
         let text = value.to_string_lossy();
-        let wrong = |expected| self.usage(format!("{name}: expected {expected}, found '{text}'"));
+        let wrong = |expected| self.usage(format!("{name}: expected {expected}, found '{}'", shown(value)));
         convert(&text).map(Some).map_err(wrong)
     }
 
@@ -220,10 +227,27 @@ mod tests {
     }
 
     #[test]
+    fn a_value_may_stand_in_its_options_word_and_need_not_be_utf8() {
+        for word in ["-ox=y", "-o=x=y", "--output=x=y"] {
+            assert_eq!(parse(&[word]).expect("good words").value("--output"), Some(OsStr::new("x=y")), "{word}");
+        }
+        let odd = OsStr::from_bytes(b"--output=\xFF").to_os_string();
+        let options = GRAMMAR.parse(&[odd]).expect("good words");
+        assert_eq!(options.value("--output"), Some(OsStr::from_bytes(b"\xFF")));
+        assert_eq!(options.files, [""; 0]);
+    }
+
+    #[test]
     fn wrong_words_are_named() {
         for (words, part) in [
             (&["--bord", "1"][..], "unknown option '--bord'"),
+            (&["--bord=1"], "unknown option '--bord'"),
+            (&["-xy=1"], "unknown option '-xy'"),
+            (&["-t=1"], "unknown option '-t'"),
+            (&["-\u{20ac}"], "unknown option '-\u{20ac}'"),
             (&["--board"], "--board needs a value"),
+            (&["-o="], "--output needs a value"),
+            (&["-o"], "--output needs a value"),
             (&["--text=1"], "--text takes no value"),
             (&["--board=0", "--board=1"], "--board is given twice"),
             (&["a", "b"], "expected one file, found 'b' too"),

@@ -2,7 +2,7 @@
 
 use super::args::{Grammar, Options};
 use super::complain;
-use super::failure::{Failure, Status};
+use super::failure::{shown, Failure, Status};
 use super::files::Source;
 use super::load::{self, Form, List, Memory, FORM_BYTES};
 use super::names;
@@ -67,7 +67,7 @@ fn denied(options: &Options) -> Result<Vec<Refusal>, Failure> {
 
 fn unknown_kind(options: &Options, name: &str) -> Failure {
     let known = names::REFUSALS.map(|(refusal, name)| format!("{} {name}", refusal.code())).join(", ");
-    options.usage(format!("--deny: expected 'all' or one of {known}, found '{name}'"))
+    options.usage(format!("--deny: expected 'all' or one of {known}, found '{}'", shown(name)))
 }
 
 /// How every list is replayed.

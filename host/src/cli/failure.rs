@@ -1,6 +1,8 @@
 //! How a command ends.
 
+use std::ffi::OsStr;
 use std::io::{self, Write};
+use std::os::unix::ffi::OsStrExt;
 use std::path::Path;
 
 /// The exit status of the program. The numbers are in the manual page.
@@ -76,7 +78,7 @@ impl Failure {
 
     /// A file could not be read or written.
     pub fn file(path: &Path, error: &io::Error) -> Failure {
-        Failure::stream(&path.display().to_string(), error)
+        Failure::stream(&shown(path), error)
     }
 
     /// A file or stream of this name could not be read or written.
@@ -97,7 +99,39 @@ impl From<io::Error> for Failure {
     }
 }
 
+/// What the user gave, as it may stand in a message: bytes of control characters, of those that end a line
+/// or turn the direction of text, and of no character at all are shown as `\x1b`.
+pub fn shown(text: impl AsRef<OsStr>) -> String {
+    let escaped = |bytes: &[u8]| bytes.iter().map(|byte| format!("\\x{byte:02x}")).collect::<String>();
+    let acts = |c: char| c.is_control() || matches!(c, '\u{2028}'..='\u{202E}' | '\u{2066}'..='\u{2069}');
+    let mut shown = String::new();
+    for chunk in text.as_ref().as_bytes().utf8_chunks() {
+        for c in chunk.valid().chars() {
+            if acts(c) {
+                shown.push_str(&escaped(c.to_string().as_bytes()));
+            } else {
+                shown.push(c);
+            }
+        }
+        shown.push_str(&escaped(chunk.invalid()));
+    }
+    shown
+}
+
 /// Lines on standard error. If even that is closed, there is nobody to tell.
 pub fn complain(text: &str) {
     let _ = writeln!(io::stderr(), "{text}");
+}
+
+#[cfg(test)]
+mod tests {
+    use super::*;
+
+    #[test]
+    fn what_acts_on_a_terminal_is_shown_as_bytes() {
+        assert_eq!(shown("K\u{e4}rtchen 1.rec"), "K\u{e4}rtchen 1.rec");
+        assert_eq!(shown("\x1b[31m\n\t\x7f"), "\\x1b[31m\\x0a\\x09\\x7f");
+        assert_eq!(shown("\u{9b}\u{202e}"), "\\xc2\\x9b\\xe2\\x80\\xae");
+        assert_eq!(shown(OsStr::from_bytes(b"a\xFFb\xC3")), "a\\xffb\\xc3");
+    }
 }

@@ -1,7 +1,7 @@
 //! Files in and out. An output file appears whole or not at all: it is written under another name in
 //! the same folder, where only its owner can read it, and then renamed.
 
-use super::failure::Failure;
+use super::failure::{shown, Failure};
 use super::system::{self, Doomed};
 use std::ffi::OsStr;
 use std::fs::{self, File, Permissions};
@@ -33,7 +33,7 @@ impl Source {
     pub fn name(&self) -> String {
         match self {
             Source::Standard => "standard input".to_string(),
-            Source::File(path) => path.display().to_string(),
+            Source::File(path) => shown(path),
         }
     }
 

@@ -1,7 +1,7 @@
 //! Record lists and memories as commands take them.
 
 use super::args::Options;
-use super::failure::Failure;
+use super::failure::{shown, Failure};
 use super::files::Source;
 use super::{numbers, pair, trace};
 use mitrophel::record::{MAX_RECORDS, RECORD_BYTES};
@@ -169,7 +169,7 @@ impl Memory {
     pub fn given(options: &Options) -> Result<Memory, Failure> {
         let length = options.size("--memory")?;
         if let Some(text) = options.value("--memory").filter(|_| !length.is_none_or(is_memory_length)) {
-            return Err(options.usage(format!("--memory: expected {LENGTHS}, found '{}'", text.display())));
+            return Err(options.usage(format!("--memory: expected {LENGTHS}, found '{}'", shown(text))));
         }
         let Some(file) = options.value("--image") else {
             return Ok(Memory { length: length.unwrap_or(8 << 20) as usize, image: Vec::new() });

@@ -24,7 +24,7 @@ mod svg;
 mod system;
 mod words;
 
-use failure::{complain, Failure, Status};
+use failure::{complain, shown, Failure, Status};
 use mitrophel::trace::{self, follow, listing, numbers};
 use std::env;
 use std::ffi::OsString;
@@ -54,7 +54,8 @@ fn run(words: &[OsString]) -> Result<Status, Failure> {
     }
     let Some(help) = help::of(&command) else {
         let known: Vec<&str> = help::COMMANDS.iter().map(|(name, _, _)| *name).collect();
-        return Err(Failure::usage(format!("expected a command ({}), found '{command}'", known.join(", "))));
+        let found = shown(&words[0]);
+        return Err(Failure::usage(format!("expected a command ({}), found '{found}'", known.join(", "))));
     };
     if asks_for_help(rest) {
         return say(help);
@@ -71,15 +72,20 @@ fn run(words: &[OsString]) -> Result<Status, Failure> {
 
 /// `-h` or `--help` before any `--`.
 fn asks_for_help(words: &[OsString]) -> bool {
-    words.iter().take_while(|word| *word != "--").any(|word| word == "-h" || word == "--help")
+    words.iter().take_while(|word| *word != "--").any(is_help)
 }
 
+fn is_help(word: &OsString) -> bool {
+    word == "-h" || word == "--help"
+}
+
+/// `mitrophel help`, of which help may be asked too.
 fn help_of(words: &[OsString]) -> Result<Status, Failure> {
-    match words {
+    match words.iter().filter(|word| !is_help(word)).collect::<Vec<_>>()[..] {
         [] => say(&help::overview()),
         [command] => match help::of(&command.to_string_lossy()) {
             Some(help) => say(help),
-            None => Err(Failure::usage(format!("no help on '{}'", command.display()))),
+            None => Err(Failure::usage(format!("no help on '{}'", shown(command)))),
         },
         _ => Err(Failure::usage("expected one command after 'help'")),
     }
