@@ -2,7 +2,7 @@
 
 mod cli;
 
-use cli::{finished, folder, names, run_with, word, CLOSED_PIPE, DONE, FILE, USAGE};
+use cli::{finished, folder, names, run_with, word, CLOSED_PIPE, DONE, FILE, INPUT, USAGE};
 use mitrophel::{record, Record};
 use std::ffi::{c_char, c_int, c_uint, CString, OsStr};
 use std::fs;
@@ -16,11 +16,13 @@ use std::thread;
 use std::time::{Duration, Instant};
 
 const SIGNALS: [c_int; 3] = [1, 2, 15];
+const RLIMIT_AS: c_int = 9;
 const SIG_DFL: usize = 0;
 const SIG_IGN: usize = 1;
 
 extern "C" {
     fn kill(process: c_int, number: c_int) -> c_int;
+    fn setrlimit(resource: c_int, limits: *const [u64; 2]) -> c_int;
     fn mkfifo(path: *const c_char, mode: c_uint) -> c_int;
     fn signal(number: c_int, action: usize) -> usize;
     fn umask(mask: c_uint) -> c_uint;
@@ -341,5 +343,47 @@ fn messages_hold_no_control_characters_of_names_and_words() {
         assert_ne!(run.status, DONE, "{words:?}");
         assert!(run.errors.contains(part), "{words:?}: {:?}", run.errors);
         assert!(!run.errors.contains('\x1b'), "{words:?}: {:?}", run.errors);
+    }
+}
+
+/// The program with so many bytes of address space.
+fn within_memory(bytes: u64) -> Command {
+    let mut command = cli::program();
+    let prepare = move || {
+        // SAFETY: in the child, before it becomes the program; the structure is two numbers, which lives long enough.
+        match unsafe { setrlimit(RLIMIT_AS, &[bytes, bytes]) } {
+            0 => Ok(()),
+            _ => Err(std::io::Error::last_os_error()),
+        }
+    };
+    // SAFETY: `prepare` allocates nothing and takes no lock.
+    unsafe { command.pre_exec(prepare) };
+    command
+}
+
+/// An input without an end is refused as soon as it is too long, and takes no more memory than one that is not.
+#[test]
+fn an_endless_input_is_refused() {
+    let folder = folder("endless");
+    fs::write(folder.join("trace"), "reset\n").expect("a trace");
+    let text = "standard input: expected a text trace of at most 512 MiB";
+    let records = "/dev/zero: expected at most 16,777,216 records";
+    for (words, part) in [
+        (&["replay", "--memory", "8M", "--image", "/dev/zero", "trace"][..], "at most 8388608 bytes"),
+        (&["audit", "--image", "/dev/zero", "trace"], "an image of a multiple of 8M from 8M to 512M, found more"),
+        (&["replay", "/dev/zero"], records),
+        (&["disasm", "/dev/zero"], records),
+        (&["map", "/dev/zero"], records),
+        (&["asm", "-"], text),
+        (&["audit", "-"], text),
+    ] {
+        let mut command = within_memory(2 << 30);
+        command.current_dir(&folder).args(words).stdin(Stdio::piped()).stdout(Stdio::piped()).stderr(Stdio::piped());
+        let mut child = command.spawn().expect("the program starts");
+        let mut stdin = child.stdin.take().expect("a pipe");
+        while stdin.write_all(&[b'\n'; 1 << 16]).is_ok() {}
+        let run = finished(child.wait_with_output().expect("the program ends"));
+        assert_eq!(run.status, INPUT, "{words:?}: {}", run.errors);
+        assert!(run.errors.contains(part), "{words:?}: {}", run.errors);
     }
 }

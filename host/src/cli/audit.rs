@@ -3,8 +3,8 @@
 use super::args::{Grammar, Options};
 use super::complain;
 use super::failure::{shown, Failure, Status};
-use super::files::Source;
-use super::load::{self, Form, List, Memory, FORM_BYTES};
+use super::files::{Input, Source};
+use super::load::{self, Form, List, Memory};
 use super::names;
 use super::numbers;
 use super::pair::{self, Pair};
@@ -13,7 +13,7 @@ use super::style::Style;
 use mitrophel::record::{self, MAX_RECORDS, RECORD_BYTES};
 use mitrophel::{Answer, Board, Refusal, Target};
 use std::ffi::OsString;
-use std::io::{self, Read, Write};
+use std::io::{self, Write};
 
 const GRAMMAR: Grammar = Grammar {
     command: "audit",
@@ -159,12 +159,8 @@ impl Engine {
 
 /// The calls of one file, read as they are needed.
 struct Calls {
-    source: Source,
-    input: Box<dyn Read>,
-    /// Bytes read and not yet given out.
-    buffer: Vec<u8>,
-    /// There is nothing more to read.
-    ended: bool,
+    /// The records that are not yet given out; those of a text trace, once it is read, too.
+    input: Input,
     /// There is nothing more to give out.
     finished: bool,
     /// Records given out in the calls before the last one, and in all.
@@ -178,36 +174,14 @@ struct Calls {
 
 impl Calls {
     fn open(source: &Source, form: Option<Form>) -> Result<Calls, Failure> {
-        let mut calls = Calls {
-            source: source.clone(),
-            input: source.open()?,
-            buffer: Vec::new(),
-            ended: false,
-            finished: false,
-            before: 0,
-            given: 0,
-            list: None,
-            text: 0,
-        };
-        calls.fill(FORM_BYTES)?;
-        if form.unwrap_or_else(|| Form::of(&calls.buffer)) == Form::Text {
-            calls.fill(usize::MAX)?;
-            calls.text = calls.buffer.len() as u64;
-            let list = List::text(source.name(), &calls.buffer)?;
-            calls.buffer = list.records.clone();
+        let mut calls = Calls { input: source.open()?, finished: false, before: 0, given: 0, list: None, text: 0 };
+        if calls.input.form(form)? == Form::Text {
+            let list = List::of_text(&mut calls.input)?;
+            calls.text = calls.input.bytes.len() as u64;
+            calls.input.bytes.clone_from(&list.records);
             calls.list = Some(list);
         }
         Ok(calls)
-    }
-
-    /// Reads until the buffer has so many bytes, or to the end.
-    fn fill(&mut self, length: usize) -> Result<(), Failure> {
-        let missing = length.saturating_sub(self.buffer.len()) as u64;
-        if !self.ended && missing != 0 {
-            let read = self.input.by_ref().take(missing).read_to_end(&mut self.buffer);
-            self.ended = (read.map_err(|error| self.source.failure(&error))? as u64) < missing;
-        }
-        Ok(())
     }
 
     /// The records of the next call; none at the end. An empty file is one call without records.
@@ -215,17 +189,17 @@ impl Calls {
         if self.finished {
             return Ok(None);
         }
-        self.fill((MAX_RECORDS + 1) * RECORD_BYTES)?;
-        if self.ended {
-            let length = self.given * RECORD_BYTES as u64 + self.buffer.len() as u64;
-            load::whole_records(&self.source.name(), length)?;
+        self.input.fill((MAX_RECORDS + 1) * RECORD_BYTES)?;
+        if self.input.ended {
+            let length = self.given * RECORD_BYTES as u64 + self.input.bytes.len() as u64;
+            load::whole_records(&self.input.source.name(), length)?;
         }
         self.before = self.given;
-        let length = pair::first_call(&self.buffer).ok_or_else(|| load::uncut(&self.place(0)))?;
-        let rest = self.buffer.split_off(length);
-        let records = std::mem::replace(&mut self.buffer, rest);
+        let length = pair::first_call(&self.input.bytes).ok_or_else(|| load::uncut(&self.place(0)))?;
+        let rest = self.input.bytes.split_off(length);
+        let records = std::mem::replace(&mut self.input.bytes, rest);
         self.given += (length / RECORD_BYTES) as u64;
-        self.finished = self.ended && self.buffer.is_empty();
+        self.finished = self.input.ended && self.input.bytes.is_empty();
         Ok(Some(records))
     }
 
@@ -234,7 +208,7 @@ impl Calls {
         let index = self.before as usize + index;
         match &self.list {
             Some(list) => list.place(index),
-            None => format!("{}: record {}", self.source.name(), numbers::grouped(index as u64 + 1)),
+            None => format!("{}: record {}", self.input.source.name(), numbers::grouped(index as u64 + 1)),
         }
     }
 

@@ -4,7 +4,7 @@ use super::args::Grammar;
 use super::failure::{Failure, Status};
 use super::files::{self, Sink};
 use super::listing::Lister;
-use super::load::List;
+use super::load::{Form, List};
 use std::ffi::OsString;
 use std::io::{self, IsTerminal};
 
@@ -17,7 +17,7 @@ pub fn asm(words: &[OsString]) -> Result<Status, Failure> {
     if sink == Sink::Standard && io::stdout().is_terminal() {
         return Err(options.usage("records are no text for a terminal: give --output FILE, or pipe them"));
     }
-    let list = List::text(source.name(), &source.read()?)?;
+    let list = List::read(&source, Some(Form::Text))?;
     files::save(&sink, &list.records)?;
     Ok(Status::Done)
 }
@@ -29,7 +29,7 @@ pub fn disasm(words: &[OsString]) -> Result<Status, Failure> {
     let options = grammar.parse(words)?;
     let source = options.source()?;
     let sink = options.value("--output").map_or(Sink::Standard, Sink::named);
-    let list = List::binary(source.name(), source.read()?)?;
+    let list = List::read(&source, Some(Form::Binary))?;
     let lister = Lister { macros: !options.has("--no-macros"), comments: !options.has("--no-comments") };
     let mut text = Vec::new();
     lister.write(&list.records, &mut text)?;

@@ -37,25 +37,26 @@ impl Source {
         }
     }
 
-    pub fn open(&self) -> Result<Box<dyn Read>, Failure> {
-        match self {
-            Source::Standard => Ok(Box::new(io::stdin().lock())),
-            Source::File(path) => match File::open(path) {
-                Ok(file) => Ok(Box::new(file)),
-                Err(error) => Err(Failure::file(path, &error)),
-            },
-        }
+    pub fn open(&self) -> Result<Input, Failure> {
+        let reader: Box<dyn Read> = match self {
+            Source::Standard => Box::new(io::stdin().lock()),
+            Source::File(path) => Box::new(File::open(path).map_err(|error| Failure::file(path, &error))?),
+        };
+        Ok(Input { source: self.clone(), reader, bytes: Vec::new(), ended: false })
     }
 
+    /// All bytes.
     pub fn read(&self) -> Result<Vec<u8>, Failure> {
-        let mut bytes = Vec::new();
-        self.open()?.read_to_end(&mut bytes).map_err(|error| self.failure(&error))?;
-        Ok(bytes)
+        let mut input = self.open()?;
+        input.fill_whole()?;
+        Ok(input.bytes)
     }
 
-    /// A failed read of this source.
-    pub fn failure(&self, error: &io::Error) -> Failure {
-        Failure::stream(&self.name(), error)
+    /// All bytes, but at most one more than `most`: it tells that there are too many.
+    pub fn read_within(&self, most: usize) -> Result<Vec<u8>, Failure> {
+        let mut input = self.open()?;
+        input.fill(most + 1)?;
+        Ok(input.bytes)
     }
 
     /// The length of a plain file; none for what can be read only once.
@@ -66,6 +67,46 @@ impl Source {
         }
     }
 }
+
+/// A source that is read as it is needed.
+pub struct Input {
+    pub source: Source,
+    reader: Box<dyn Read>,
+    /// Bytes read and not yet taken away.
+    pub bytes: Vec<u8>,
+    /// There is nothing more to read.
+    pub ended: bool,
+}
+
+impl Input {
+    /// Reads until there are so many bytes, or to the end.
+    pub fn fill(&mut self, length: usize) -> Result<(), Failure> {
+        let missing = length.saturating_sub(self.bytes.len()) as u64;
+        if !self.ended && missing != 0 {
+            let read = self.reader.by_ref().take(missing).read_to_end(&mut self.bytes);
+            let failure = |error: io::Error| Failure::stream(&self.source.name(), &error);
+            self.ended = (read.map_err(failure)? as u64) < missing;
+        }
+        Ok(())
+    }
+}
+
+impl Input {
+    /// Reads to the end. What is no plain file, and may have none, is read to a bound.
+    pub fn fill_whole(&mut self) -> Result<(), Failure> {
+        if self.source.length().is_some() {
+            return self.fill(usize::MAX);
+        }
+        self.fill(MOST_BYTES + 1)?;
+        match self.bytes.len() > MOST_BYTES {
+            true => Err(Failure::input(format!("{}: expected at most {} GiB", self.source.name(), MOST_BYTES >> 30))),
+            false => Ok(()),
+        }
+    }
+}
+
+/// As much as is taken of a pipe or a device, so that one without an end does not take all memory.
+const MOST_BYTES: usize = 4 << 30;
 
 /// Where output goes.
 #[derive(Clone, Debug, PartialEq, Eq)]

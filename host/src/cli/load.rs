@@ -2,7 +2,7 @@
 
 use super::args::Options;
 use super::failure::{shown, Failure};
-use super::files::Source;
+use super::files::{Input, Source};
 use super::{numbers, pair, trace};
 use mitrophel::record::{MAX_RECORDS, RECORD_BYTES};
 use mitrophel::trace::{Assembled, Expectation, Place};
@@ -33,6 +33,14 @@ impl Form {
     }
 }
 
+impl Input {
+    /// The form of a list, told by its start unless it is given.
+    pub fn form(&mut self, given: Option<Form>) -> Result<Form, Failure> {
+        self.fill(FORM_BYTES)?;
+        Ok(given.unwrap_or_else(|| Form::of(&self.bytes)))
+    }
+}
+
 /// A list of records and where each came from.
 pub struct List {
     /// The list's own name first, then what it includes.
@@ -55,6 +63,12 @@ impl List {
             Form::Text => List::text(name, &bytes),
             Form::Binary => List::binary(name, bytes),
         }
+    }
+
+    /// The text trace that a source is.
+    pub fn of_text(input: &mut Input) -> Result<List, Failure> {
+        input.fill_whole()?;
+        List::text(input.source.name(), &input.bytes)
     }
 
     /// A text trace.
@@ -159,8 +173,10 @@ pub struct Memory {
 
 /// "a multiple of 8 MiB, 8 to 512 MiB"
 fn is_memory_length(length: u64) -> bool {
-    length.is_multiple_of(8 << 20) && (8 << 20..=512 << 20).contains(&length)
+    length.is_multiple_of(8 << 20) && (8 << 20..=MOST_MEMORY).contains(&length)
 }
+
+const MOST_MEMORY: u64 = 512 << 20;
 
 const LENGTHS: &str = "a multiple of 8M from 8M to 512M";
 
@@ -175,18 +191,18 @@ impl Memory {
             return Ok(Memory { length: length.unwrap_or(8 << 20) as usize, image: Vec::new() });
         };
         let source = Source::named(file);
-        let image = source.read()?;
-        let own = image.len() as u64;
-        let found = || format!("{}: expected an image of", source.name());
+        let most = length.unwrap_or(MOST_MEMORY) as usize;
+        let image = source.read_within(most)?;
+        let found = if image.len() > most { "more".to_string() } else { format!("{} bytes", image.len()) };
+        let expected = format!("{}: expected an image of", source.name());
         match length {
-            Some(length) if own > length => {
-                Err(Failure::input(format!("{} at most {length} bytes, the memory's length, found {own}", found())))
+            Some(length) if image.len() > most => {
+                Err(Failure::input(format!("{expected} at most {length} bytes, the memory's length, found {found}")))
             }
             Some(length) => Ok(Memory { length: length as usize, image }),
-            None if is_memory_length(own) => Ok(Memory { length: image.len(), image }),
+            None if is_memory_length(image.len() as u64) => Ok(Memory { length: image.len(), image }),
             None => Err(Failure::input(format!(
-                "{} {LENGTHS}, found {own} bytes; with --memory a shorter one stands at address 0",
-                found()
+                "{expected} {LENGTHS}, found {found}; with --memory a shorter one stands at address 0"
             ))),
         }
     }

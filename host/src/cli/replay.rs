@@ -265,7 +265,9 @@ impl Outputs {
         if outputs.dump.as_ref().is_some_and(|dump| dump.same(first)) {
             return Err(options.usage(match (&outputs.answers, &outputs.dump) {
                 (Some(_), _) => "--answers and --dump name the same file",
-                (None, Some(Sink::Standard)) => "--dump - needs --answers FILE, since the answers are printed otherwise",
+                (None, Some(Sink::Standard)) => {
+                    "--dump - needs --answers FILE, since the answers are printed otherwise"
+                }
                 (None, _) => "--dump names the file that the answers are printed to",
             }));
         }
