@@ -26,7 +26,12 @@ impl Colour {
 /// NO_COLOR, where it is set and not empty, and a dumb terminal forbid colour.
 fn terminal_has_colour() -> bool {
     let forbidden = env::var_os("NO_COLOR").is_some_and(|value| !value.is_empty());
-    !forbidden && env::var_os("TERM").is_none_or(|term| term != "dumb")
+    !forbidden && !is_dumb()
+}
+
+/// Whether the terminal knows no escape sequences.
+pub fn is_dumb() -> bool {
+    env::var_os("TERM").is_some_and(|term| term == "dumb")
 }
 
 /// Puts text in colour, or leaves it.
