@@ -366,8 +366,8 @@ fn within_memory(bytes: u64) -> Command {
 fn an_endless_input_is_refused() {
     let folder = folder("endless");
     fs::write(folder.join("trace"), "reset\n").expect("a trace");
-    let text = "standard input: expected a text trace of at most 512 MiB";
-    let records = "/dev/zero: expected at most 16,777,216 records";
+    let text = "standard input: expected at most 1 GiB of what is no plain file";
+    let records = "/dev/zero: expected at most 1 GiB of what is no plain file";
     for (words, part) in [
         (&["replay", "--memory", "8M", "--image", "/dev/zero", "trace"][..], "at most 8388608 bytes"),
         (&["audit", "--image", "/dev/zero", "trace"], "an image of a multiple of 8M from 8M to 512M, found more"),
@@ -377,7 +377,7 @@ fn an_endless_input_is_refused() {
         (&["asm", "-"], text),
         (&["audit", "-"], text),
     ] {
-        let mut command = within_memory(2 << 30);
+        let mut command = within_memory(3 << 30);
         command.current_dir(&folder).args(words).stdin(Stdio::piped()).stdout(Stdio::piped()).stderr(Stdio::piped());
         let mut child = command.spawn().expect("the program starts");
         let mut stdin = child.stdin.take().expect("a pipe");

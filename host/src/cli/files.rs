@@ -99,14 +99,17 @@ impl Input {
         }
         self.fill(MOST_BYTES + 1)?;
         match self.bytes.len() > MOST_BYTES {
-            true => Err(Failure::input(format!("{}: expected at most {} GiB", self.source.name(), MOST_BYTES >> 30))),
+            true => {
+                let most = format!("at most {} GiB of what is no plain file", MOST_BYTES >> 30);
+                Err(Failure::input(format!("{}: expected {most}", self.source.name())))
+            }
             false => Ok(()),
         }
     }
 }
 
 /// As much as is taken of a pipe or a device, so that one without an end does not take all memory.
-const MOST_BYTES: usize = 4 << 30;
+const MOST_BYTES: usize = 1 << 30;
 
 /// Where output goes.
 #[derive(Clone, Debug, PartialEq, Eq)]
