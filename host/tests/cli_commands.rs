@@ -264,7 +264,7 @@ fn an_audit_ends_with_status_1_if_a_denied_refusal_was_seen() {
     {
         let run = run(&[&["audit"], deny, &[&fault]].concat());
         assert_eq!(run.status, UNMET, "{deny:?}");
-        let first = format!("mitrophel: {fault}:15: refused 6: entry's page is protected (denied)\n");
+        let first = format!("mitrophel: {fault}:18: refused 6: entry's page is protected (denied)\n");
         assert!(run.errors.starts_with(&first), "{}", run.errors);
         assert!(run.errors.ends_with(": 11 more denied refusals"), "{}", run.errors);
         assert!(run.text.contains("protected                              12  denied"), "{}", run.text);

@@ -33,9 +33,10 @@ const GENERAL: &str = "
 all. 'mitrophel --version' tells where the answers come from.
 
 Numbers are 4096, 0x1000 or 1000h, sizes 16M; FILE '-' is standard input.
-Exit status: 0 done, 1 audit saw a denied refusal, 2 wrong command line,
-3 malformed input, 4 a file cannot be read or written, 5 the proved call and
-the reference disagree, 141 the reader of the output went away.
+Exit status: 0 done, 1 a check failed (audit --deny, replay --check, compare),
+2 wrong command line, 3 malformed input, 4 a file cannot be read or written,
+5 the proved call and the reference disagree, 141 the reader of the output
+went away.
 
 Start with:
   mitrophel demo
@@ -48,15 +49,31 @@ each with its answer: what was accessed, where it went, by which rule, or the
 refusal and why. FILE is a text trace or the binary form, told apart by its
 content; '-' is standard input.
 
+  --check           compare the answers with what the trace expects, '#> ..'
+                    beside or below a line; exit with 1 if one differs
+  --bless           write the expectations of FILE anew, as the answers are; a
+                    trace without any gets one for each line
+  --reasons         with --bless: the rule or reason too, in parentheses
+  --only KIND       print these records only; several with commas (see below)
+  --lines           print the trace's line beside the record
+  --json            print one JSON object for each record
+  --csv             print comma-separated values, names in the first line
+  --show-protected  show values of protected memory; they are '\u{B7}\u{B7}' otherwise
   --board NAME      82810 (default) or dc100
   --memory SIZE     main memory: a multiple of 8M, 8M to 512M
                     (default: the image's length, else 8M)
   --image FILE      memory at the start, from address 0; the rest is zero
   --answers FILE    write the answers, 16 bytes each, and print nothing
-  --dump FILE       write memory as it is afterwards
+  --dump FILE       write memory as it is afterwards; for its owner alone if
+                    it holds bytes that were protected
+  --redact          with --dump: zeros where memory was protected
   --text, --binary  take FILE for a text trace, or for the binary form,
                     whatever its content
   --color WHEN      auto (default), always or never
+
+Kinds for --only: refused, answered; a refusal's code or name, as for 'audit
+--deny'; memory, register, hub, vga, mmio, by where it went; window, error,
+interrupt; io, read, fetch, write, smm, master, run, reset.
 
 The reasons come from a second replay, in ordinary Rust, beside the proved
 call. Should the two ever disagree, the difference is told, nothing is written,
