@@ -1,9 +1,10 @@
 //! One answer in words: where the access went, by which rule, or why it was refused.
 
+use super::names::Bases;
 use super::pair::Step;
 use super::{listing, names, numbers, words};
 use mitrophel::reference::{Fence, Lsmm, Rule};
-use mitrophel::{Kind, Refusal, Target};
+use mitrophel::{Kind, Record, Refusal, Target};
 
 /// How an answer is coloured.
 #[derive(Clone, Copy, Debug, PartialEq, Eq)]
@@ -45,7 +46,8 @@ impl Told {
     pub fn of(step: &Step<'_, '_>, secrets: Secrets) -> Told {
         let hidden = step.protected && secrets == Secrets::Hidden;
         let (tone, outcome) = outcome(step, hidden);
-        Told { tone, asked: asked(step, hidden), outcome, reason: reason(step), line: step.answer.line != 0 }
+        let asked = asked(&step.record, step.bases, hidden);
+        Told { tone, asked, outcome, reason: reason(step), line: step.answer.line != 0 }
     }
 
     /// What an expectation of a trace says of it, with or without the reason.
@@ -61,11 +63,12 @@ impl Told {
     }
 }
 
-/// The record as a statement, without its data where that is hidden.
-fn asked(step: &Step<'_, '_>, hidden: bool) -> String {
-    let statement = listing::statement(&step.record, step.bases);
-    let data = numbers::data(step.record.data, step.record.width);
-    match statement.strip_suffix(&data).filter(|_| hidden && is_write(step)) {
+/// A record as a statement, without what it writes where that is hidden.
+pub fn asked(record: &Record, bases: Bases, hidden: bool) -> String {
+    let statement = listing::statement(record, bases);
+    let data = numbers::data(record.data, record.width);
+    let is_write = record.kind().is_some_and(Kind::is_write);
+    match statement.strip_suffix(&data).filter(|_| hidden && is_write) {
         Some(start) => format!("{start}{REDACTED}"),
         None => statement,
     }

@@ -4,8 +4,8 @@
 //! time, so that each answer can be explained; the two must agree in every answer and in every byte of
 //! memory.
 
+use super::explain;
 use super::failure::Failure;
-use super::listing;
 use super::names::Bases;
 use mitrophel::call::gmch_replay;
 use mitrophel::record::{self, RECORD_BYTES};
@@ -98,10 +98,10 @@ impl Pair {
         for (index, (record, answer)) in record::decode(records).zip(record::decode_answers(&answers)).enumerate() {
             let bases = Bases::of(&hub);
             let beside = hub.answer(&record);
-            if answer != beside {
-                return Err(different_answers(index, &record, bases, &answer, &beside));
-            }
             let Heard { rule, protected } = std::mem::take(hub.observer());
+            if answer != beside {
+                return Err(different_answers(index, &record, bases, [&answer, &beside], protected));
+            }
             let now = register_now(&mut hub, &record, &answer);
             each(&Step { index, record, answer, rule, protected, bases, now, hub: &hub })?;
         }
@@ -114,25 +114,26 @@ impl Pair {
             return Ok(());
         }
         let at = self.proved.iter().zip(&self.beside).position(|(proved, beside)| proved != beside).unwrap_or_default();
-        let (proved, beside) = (self.proved[at], self.beside[at]);
-        Err(Failure::disagreement(format!(
-            "{LOUD} about memory: byte {at:X}h is {proved:02X}h after the proved call and {beside:02X}h after the \
-             reference\n{ADVICE}"
-        )))
+        // The bytes may be the key's, and the message is to be sent to somebody.
+        Err(Failure::disagreement(format!("{LOUD} about memory: byte {at:X}h differs\n{ADVICE}")))
     }
 }
 
 const LOUD: &str = "THE PROVED CALL AND THE REFERENCE DISAGREE";
 const ADVICE: &str = "Trust neither answer. Nothing was written. Please report the records with this message.";
 
-fn different_answers(index: usize, record: &Record, bases: Bases, proved: &Answer, beside: &Answer) -> Failure {
-    let hex = |answer: &Answer| answer.to_bytes().map(|byte| format!("{byte:02X} ")).concat();
+/// The two answers, without their values where one may be the key's.
+fn different_answers(index: usize, record: &Record, bases: Bases, both: [&Answer; 2], protected: bool) -> Failure {
+    let shown = both.map(|answer| if protected { Answer { value: 0, ..*answer } } else { *answer });
+    let [proved, beside] = shown.map(|answer| {
+        let bytes = answer.to_bytes().map(|byte| format!("{byte:02X} "));
+        format!("{}({answer})", bytes.concat())
+    });
+    let hidden = if protected { "\n  Values of protected memory are shown as 0." } else { "" };
     Failure::disagreement(format!(
-        "{LOUD} at record {} of the call: {}\n  proved call {}({proved})\n  reference   {}({beside})\n{ADVICE}",
+        "{LOUD} at record {} of the call: {}\n  proved call {proved}\n  reference   {beside}{hidden}\n{ADVICE}",
         index + 1,
-        listing::statement(record, bases),
-        hex(proved),
-        hex(beside),
+        explain::asked(record, bases, protected),
     ))
 }
 
@@ -219,7 +220,7 @@ mod tests {
         let mut pair = Pair::by(Board::I82810, memory(), scribbling);
         let failure = pair.replay(&[], |_| Ok(())).expect_err("a scribbling call");
         assert_eq!(failure.status, Status::Disagreement);
-        assert!(failure.message.contains("byte 1234h is 01h after the proved call"), "{}", failure.message);
+        assert!(failure.message.contains("about memory: byte 1234h differs"), "{}", failure.message);
         let failure = Pair::by(Board::I82810, memory(), refusing).replay(&[], |_| Ok(())).expect_err("a refusing call");
         assert_eq!(failure.status, Status::Disagreement);
     }
