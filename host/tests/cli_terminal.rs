@@ -157,3 +157,23 @@ fn records_are_not_sent_to_a_terminal() {
         assert!(text.contains("no text for a terminal"), "{text}");
     }
 }
+
+/// What `replay` prints fits the terminal and loses no word.
+#[test]
+fn a_replay_fits_the_terminal() {
+    let words = |text: &str| -> Vec<String> { text.split_whitespace().map(str::to_string).collect() };
+    for example in ["05-where-an-address-goes", "06-table-fences-ring-interrupts", "02-records-and-answers"] {
+        let trace = word(&examples().join(example).with_extension("trace"));
+        let wide = cli::run(&["replay", &trace]).text;
+        for (columns, options) in [(80, &[][..]), (80, &["--lines"]), (60, &[]), (132, &[])] {
+            let (status, text) =
+                in_terminal_of(columns, &[&["replay", "--color=never"], options, &[&trace]].concat(), &[]);
+            assert_eq!(status, DONE);
+            let longest = text.lines().map(|line| line.chars().count()).max();
+            assert!(longest <= Some(columns.into()), "{example}: {longest:?} columns\n{text}");
+            if options.is_empty() {
+                assert_eq!(words(&text), words(&wide), "{example}");
+            }
+        }
+    }
+}
