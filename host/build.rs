@@ -1,40 +1,43 @@
-//! Builds the proved archive `libdesk.a` where it is missing or out of date, and links it.
+//! Has the proved archive `libdesk.a` built where it is missing or out of date, and links it.
+//!
+//! `tools/archive` decides by contents whether the archive is out of date. Cargo decides by dates when
+//! to ask it, and recompiles the package each time; so a source with an old date is noticed by the
+//! Makefile and `tools/test`, which run `tools/archive` before cargo, and by a test.
 
 use std::path::{Path, PathBuf};
 use std::process::Command;
-use std::time::SystemTime;
-use std::{env, fs};
+use std::time::{Duration, SystemTime};
+use std::{env, fs, io};
 
 /// What one crate of the proved model is made of.
 const PARTS: [&str; 3] = ["src", "specs", "proofs"];
 
 fn main() {
+    let began = SystemTime::now();
     let host = PathBuf::from(env::var_os("CARGO_MANIFEST_DIR").expect("cargo names the package"));
     let root = host.parent().expect("the package lies in the repository");
     let folder = root.join("target").join("staticlib");
-    let archive = folder.join("libdesk.a");
+    let made = [folder.join("libdesk.a"), folder.join("libdesk.a.made-from")];
 
-    let sources = sources(root);
-    for source in sources.iter().chain([&archive]) {
-        println!("cargo::rerun-if-changed={}", source.display());
-    }
-    let changed = sources.iter().filter_map(|source| newest(source)).max();
-    if modified(&archive).is_none_or(|built| Some(built) < changed) {
-        build(root, &archive);
-        // The archive is dated like the newest source that it was built from: an edit during the build
-        // is still newer, and cargo does not take the archive for a reason to run this again.
-        let date = |changed| fs::File::options().append(true).open(&archive)?.set_modified(changed);
-        if let Some(Err(error)) = changed.map(date) {
-            fail(&format!("cannot date {}: {error}", archive.display()));
+    build(root);
+    for file in &made {
+        if let Err(error) = date(file, began) {
+            fail(&format!("cannot date {}: {error}", file.display()));
         }
     }
+    for source in sources(root).iter().chain(&made) {
+        println!("cargo::rerun-if-changed={}", source.display());
+    }
+    let note = fs::read_to_string(&made[1]).unwrap_or_default();
+    println!("cargo::rustc-env=MITROPHEL_ARCHIVE_SHA256={}", noted(&note, "archive"));
+    println!("cargo::rustc-env=MITROPHEL_TOOLCHAIN={}", noted(&note, "toolchain"));
     println!("cargo::rustc-link-search=native={}", folder.display());
     println!("cargo::rustc-link-lib=static=desk");
 }
 
-/// The list of crates and, for each crate, the folders that its proof rests on.
+/// The rule, the list of crates and, for each crate, the folders that its proof rests on.
 fn sources(root: &Path) -> Vec<PathBuf> {
-    let mut sources = vec![root.join("crates.txt")];
+    let mut sources = vec![root.join("tools").join("archive"), root.join("crates.txt")];
     for entry in fs::read_dir(root.join("crates")).into_iter().flatten().flatten() {
         sources.extend(PARTS.iter().map(|part| entry.path().join(part)).filter(|folder| folder.is_dir()));
     }
@@ -42,35 +45,32 @@ fn sources(root: &Path) -> Vec<PathBuf> {
     sources
 }
 
-fn modified(path: &Path) -> Option<SystemTime> {
-    fs::metadata(path).and_then(|data| data.modified()).ok()
-}
-
-/// The last change of a file, or of a folder and anything in it.
-fn newest(path: &Path) -> Option<SystemTime> {
-    let inside = fs::read_dir(path).into_iter().flatten().flatten();
-    inside.filter_map(|entry| newest(&entry.path())).chain(modified(path)).max()
-}
-
-/// Proves the crate `desk` and writes its archive.
-fn build(root: &Path, archive: &Path) {
-    let mut command = Command::new("rt");
-    command.args(["staticlib", "desk"]).current_dir(root);
-    let run = match command.output() {
+/// Proves the crate `desk` and writes its archive, if there is need.
+fn build(root: &Path) {
+    let run = match Command::new("bash").arg("tools/archive").current_dir(root).output() {
         Ok(run) => run,
-        Err(error) => fail(&format!(
-            "cannot run 'rt staticlib desk' ({error}): the toolchain's 'rt' must be on the PATH to build {}",
-            archive.display()
-        )),
+        Err(error) => fail(&format!("cannot run 'bash tools/archive': {error}")),
     };
     if !run.status.success() {
         let mut said = String::from_utf8_lossy(&run.stdout).into_owned();
         said.push_str(&String::from_utf8_lossy(&run.stderr));
-        fail(&format!("'rt staticlib desk' ended with {}:\n{said}", run.status));
+        fail(&format!("'bash tools/archive' ended with {}:\n{said}", run.status));
     }
-    if !archive.exists() {
-        fail(&format!("'rt staticlib desk' succeeded but wrote no {}", archive.display()));
+}
+
+/// Dates a file that this run of the script made before its start, or cargo would take the file for a
+/// reason to run the script again.
+fn date(file: &Path, began: SystemTime) -> io::Result<()> {
+    if fs::metadata(file)?.modified()? < began {
+        return Ok(());
     }
+    fs::File::options().append(true).open(file)?.set_modified(began - Duration::from_secs(1))
+}
+
+/// What the archive's note says after this word.
+fn noted<'a>(note: &'a str, word: &str) -> &'a str {
+    let said = note.lines().find_map(|line| line.strip_prefix(word)?.strip_prefix(' '));
+    said.unwrap_or_else(|| fail(&format!("libdesk.a.made-from has no line '{word}'")))
 }
 
 fn fail(why: &str) -> ! {
