@@ -30,7 +30,8 @@ read, replayed and explained.
 
 const GENERAL: &str = "
 'mitrophel COMMAND --help' tells more, with an example; 'man mitrophel' has it
-all. 'mitrophel --version' tells where the answers come from.
+all. 'mitrophel --version' tells where the answers come from, with the SHA-256
+of the proved archive in it and the toolchain that proved it.
 
 Numbers are 4096, 0x1000 or 1000h, sizes 16M; FILE '-' is standard input.
 Exit status: 0 done, 1 a check failed (audit --deny, replay --check, compare),

@@ -97,7 +97,10 @@ fn say(text: &str) -> Result<Status, Failure> {
     Ok(Status::Done)
 }
 
+/// `sha256sum` of the archive gives the same sum.
 fn version() -> String {
     let answers = "answers by the machine-proved archive libdesk.a, explanations by the reference";
-    format!("mitrophel {}\n{answers}\n", env!("CARGO_PKG_VERSION"))
+    let archive = concat!("libdesk.a sha256 ", env!("MITROPHEL_ARCHIVE_SHA256"));
+    let toolchain = concat!("proved by ", env!("MITROPHEL_TOOLCHAIN"));
+    format!("mitrophel {}\n{answers}\n{archive}\n{toolchain}\n", env!("CARGO_PKG_VERSION"))
 }
