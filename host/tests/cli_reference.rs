@@ -2,7 +2,8 @@
 
 mod cli;
 
-use cli::{run, DONE};
+use cli::{folder, run, DONE, USAGE};
+use std::fs;
 use std::path::Path;
 use std::process::Command;
 
@@ -18,4 +19,116 @@ fn the_version_has_the_archives_sum_and_its_toolchain() {
     assert_eq!(version.status, DONE);
     assert!(version.text.contains(&format!("\nlibdesk.a sha256 {sum}\n")), "{}", version.text);
     assert!(version.text.contains("\nproved by rattle-kit-"), "{}", version.text);
+}
+
+/// The commands of the overview.
+fn commands() -> Vec<String> {
+    let overview = run(&["--help"]).text;
+    let lines = overview.lines().skip_while(|line| !line.is_empty()).skip(1).take_while(|line| !line.is_empty());
+    lines.filter_map(|line| line.split_whitespace().next().map(str::to_string)).collect()
+}
+
+/// What bash completes the last of these words to; `compopt -o default` is its own completion of files.
+fn completed(script: &Path, words: &[&str]) -> Vec<String> {
+    let call = r#"source "$0"; compopt() { echo "compopt $*"; }
+        COMP_WORDS=(mitrophel "$@"); COMP_CWORD=$#; _mitrophel; [ -z "${COMPREPLY[*]}" ] || printf '%s\n' "${COMPREPLY[@]}""#;
+    let run = Command::new("bash").args(["-euc", call]).arg(script).args(words).output().expect("bash runs");
+    assert!(run.status.success() && run.stderr.is_empty(), "{run:?}");
+    String::from_utf8(run.stdout).expect("words").lines().map(str::to_string).collect()
+}
+
+#[test]
+fn bash_completes_commands_options_and_values() {
+    let script = folder("completion").join("mitrophel");
+    let printed = run(&["completion", "bash"]);
+    assert_eq!((printed.status, printed.errors.as_str()), (DONE, ""));
+    fs::write(&script, printed.out).expect("the script is written");
+    for (words, expected) in [
+        (&["re"][..], &["replay"][..]),
+        (&["--v"], &["--version"]),
+        (&["help", "au"], &["audit"]),
+        (&["replay", "--bo"], &["--board"]),
+        (&["replay", "--board", ""], &["82810", "dc100"]),
+        (&["replay", "--board", "=", "d"], &["dc100"]),
+        (&["replay", "--board", "="], &["82810", "dc100"]),
+        (&["audit", "--color", "a"], &["auto", "always"]),
+        (&["audit", "night.rec", "--deny", "pro"], &["protected"]),
+        (&["map", "--smram", ""], &[]),
+        (&["explain", "prot"], &["protected"]),
+        (&["completion", "z"], &["zsh"]),
+        (&["demo", ""], &[]),
+        (&["replay", "--text", ""], &["compopt -o default"]),
+        (&["replay", "--image", ""], &["compopt -o default"]),
+        (&["asm", "-o", ""], &["compopt -o default"]),
+        (&["audit", "a.rec", ""], &["compopt -o default"]),
+    ] {
+        assert_eq!(completed(&script, words), expected, "{words:?}");
+    }
+    let mut all = commands();
+    assert!(all.len() >= 8, "{all:?}");
+    all.extend(["help", "--help", "--version"].map(str::to_string));
+    assert_eq!(completed(&script, &[""]), all);
+    for command in commands() {
+        assert!(completed(&script, &[&command, "--h"]) == ["--help"], "{command}");
+    }
+}
+
+#[test]
+fn every_shell_has_every_command_and_option() {
+    for shell in ["bash", "zsh", "fish"] {
+        let script = run(&["completion", shell]);
+        assert_eq!((script.status, script.errors.as_str()), (DONE, ""));
+        for command in commands() {
+            assert!(script.text.contains(&command), "{shell} {command}");
+            let help = run(&[&command, "--help"]).text;
+            for line in help.lines().filter(|line| line.trim_start().starts_with('-')) {
+                let option = line.split_whitespace().find_map(|word| word.strip_prefix("--")).expect("a long option");
+                let option = option.trim_end_matches(',');
+                let written = if shell == "fish" { format!(" -l {option}") } else { format!("--{option}") };
+                assert!(script.text.contains(&written), "{shell} {command} {option}");
+            }
+        }
+    }
+    for words in [&["completion"][..], &["completion", "csh"], &["completion", "bash", "zsh"]] {
+        let run = run(words);
+        assert_eq!((run.status, run.text.as_str()), (USAGE, ""));
+        assert!(run.errors.contains("bash, zsh or fish"), "{}", run.errors);
+    }
+}
+
+/// Pasted into a shell, every example of a code that an answer holds gives that code on its last access.
+#[test]
+fn every_code_is_explained_with_an_example_that_runs() {
+    let program = Path::new(env!("CARGO_BIN_EXE_mitrophel")).parent().expect("the program lies in a folder");
+    let path = format!("{}:{}", program.display(), std::env::var("PATH").expect("a PATH"));
+    for code in 2..=13 {
+        let told = run(&["explain", &code.to_string()]);
+        assert_eq!((told.status, told.errors.as_str()), (DONE, ""));
+        let at = told.text.find("mitrophel replay - <<").expect("an example");
+        let run = Command::new("bash").args(["-c", &told.text[at..]]).env("PATH", &path).output().expect("bash runs");
+        let printed = String::from_utf8(run.stdout).expect("text");
+        let last = printed.lines().last().expect("an answer");
+        assert!(last.contains(&format!(" refused {code}: ")), "{last}");
+    }
+}
+
+#[test]
+fn a_code_has_a_number_and_a_name() {
+    let list = run(&["explain"]);
+    assert_eq!((list.status, list.errors.as_str()), (DONE, ""));
+    let mut codes = 0;
+    for line in list.text.lines().filter(|line| !line.starts_with("   ")) {
+        let mut words = line.split_whitespace();
+        let [number, name] = [(); 2].map(|()| words.next().expect("a number and a name"));
+        let told = run(&["explain", number]);
+        assert_eq!(told.text, run(&["explain", &name.to_uppercase()]).text);
+        assert!(told.text.starts_with(&format!("{number} {name}: ")), "{}", told.text);
+        codes += 1;
+    }
+    assert_eq!(codes, 13);
+    for words in [&["explain", "0"][..], &["explain", "14"], &["explain", "--all"], &["explain", "2", "3"]] {
+        let run = run(words);
+        assert_eq!((run.status, run.text.as_str()), (USAGE, ""));
+        assert!(run.errors.contains("expected "), "{}", run.errors);
+    }
 }

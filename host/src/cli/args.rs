@@ -30,10 +30,13 @@ pub struct Options {
 }
 
 /// Options that may be given more than once.
-const REPEATED: &[&str] = &["--deny", "--only"];
+pub const REPEATED: &[&str] = &["--deny", "--only"];
+
+/// The values of `--color`.
+pub const COLOURS: [(&str, Colour); 3] = [("auto", Colour::Auto), ("always", Colour::Always), ("never", Colour::Never)];
 
 /// Short forms.
-const SHORT: &[(&str, &str)] = &[("-o", "--output")];
+pub const SHORT: &[(&str, &str)] = &[("-o", "--output")];
 
 impl Grammar {
     /// Takes the words after the command apart. They are bytes: a file's name need not be UTF-8.
@@ -188,11 +191,9 @@ impl Options {
 
     /// `--color`
     pub fn colour(&self) -> Result<Colour, Failure> {
-        let colour = self.converted("--color", |text| match text {
-            "auto" => Ok(Colour::Auto),
-            "always" => Ok(Colour::Always),
-            "never" => Ok(Colour::Never),
-            _ => Err("auto, always or never".to_string()),
+        let colour = self.converted("--color", |text| {
+            let named = COLOURS.iter().find(|(name, _)| *name == text);
+            named.map(|(_, colour)| *colour).ok_or_else(|| "auto, always or never".to_string())
         })?;
         Ok(colour.unwrap_or(Colour::Auto))
     }

@@ -15,7 +15,7 @@ use mitrophel::{Answer, Board, Refusal, Target};
 use std::ffi::OsString;
 use std::io::{self, Write};
 
-const GRAMMAR: Grammar = Grammar {
+pub const GRAMMAR: Grammar = Grammar {
     command: "audit",
     values: &["--deny", "--board", "--memory", "--image", "--color"],
     switches: &["--compare", "--text", "--binary"],

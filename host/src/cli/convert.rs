@@ -8,10 +8,14 @@ use super::load::{Form, List};
 use std::ffi::OsString;
 use std::io::{self, IsTerminal};
 
+pub const ASM: Grammar = Grammar { command: "asm", values: &["--output"], switches: &[], files: 1 };
+
+pub const DISASM: Grammar =
+    Grammar { command: "disasm", values: &["--output"], switches: &["--no-macros", "--no-comments"], files: 1 };
+
 /// `mitrophel asm`
 pub fn asm(words: &[OsString]) -> Result<Status, Failure> {
-    let grammar = Grammar { command: "asm", values: &["--output"], switches: &[], files: 1 };
-    let options = grammar.parse(words)?;
+    let options = ASM.parse(words)?;
     let source = options.source()?;
     let sink = options.value("--output").map_or(Sink::Standard, Sink::named);
     if sink == Sink::Standard && io::stdout().is_terminal() {
@@ -24,9 +28,7 @@ pub fn asm(words: &[OsString]) -> Result<Status, Failure> {
 
 /// `mitrophel disasm`
 pub fn disasm(words: &[OsString]) -> Result<Status, Failure> {
-    let switches = &["--no-macros", "--no-comments"];
-    let grammar = Grammar { command: "disasm", values: &["--output"], switches, files: 1 };
-    let options = grammar.parse(words)?;
+    let options = DISASM.parse(words)?;
     let source = options.source()?;
     let sink = options.value("--output").map_or(Sink::Standard, Sink::named);
     let list = List::read(&source, Some(Form::Binary))?;

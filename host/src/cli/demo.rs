@@ -36,7 +36,7 @@ const COLUMNS: u32 = 72;
 const INTRODUCTION: &str = "Mitrophel: a machine-proved model of Intel's 82810 graphics hub. Every answer below is \
                             the proved call's; the reasons are the reference's, which replays the same records.";
 
-const GRAMMAR: Grammar = Grammar { command: "demo", values: &["--color"], switches: &["--ascii"], files: 0 };
+pub const GRAMMAR: Grammar = Grammar { command: "demo", values: &["--color"], switches: &["--ascii"], files: 0 };
 
 /// `mitrophel demo`
 pub fn run(words: &[OsString]) -> Result<Status, Failure> {

@@ -1,13 +1,15 @@
 //! What `--help` says.
 
 /// Every command with its line in the overview and its help.
-pub const COMMANDS: [(&str, &str, &str); 6] = [
+pub const COMMANDS: &[(&str, &str, &str)] = &[
     ("replay", "replay records on a board and explain each answer", REPLAY),
     ("asm", "turn a text trace into records", ASM),
     ("disasm", "turn records into a text trace", DISASM),
     ("map", "show where each address goes", MAP),
     ("audit", "replay many lists and count the refusals", AUDIT),
     ("demo", "a desk, its lobby picture and three earlier faults", DEMO),
+    ("explain", "tell when a code is given, with an example that runs", EXPLAIN),
+    ("completion", "print a shell's completion script", COMPLETION),
 ];
 
 /// The help of a command.
@@ -17,7 +19,7 @@ pub fn of(command: &str) -> Option<&'static str> {
 
 /// The help of the program.
 pub fn overview() -> String {
-    let commands: Vec<String> = COMMANDS.iter().map(|(name, line, _)| format!("  {name:<8} {line}\n")).collect();
+    let commands: Vec<String> = COMMANDS.iter().map(|(name, line, _)| format!("  {name:<10} {line}\n")).collect();
     format!("{OVERVIEW}{}{GENERAL}", commands.concat())
 }
 
@@ -203,4 +205,23 @@ Every outcome is checked.
 
 Example:
   mitrophel demo | less
+";
+
+const EXPLAIN: &str = "\
+Usage: mitrophel explain [CODE]
+Tell when an access is refused with CODE, which codes are looked at before it,
+what the answer holds, and a trace that gets it. CODE is a number from 1 to 13
+or a short name, as in 'mitrophel audit --help'. Without CODE, list all codes.
+
+Example:
+  mitrophel explain protected
+";
+
+const COMPLETION: &str = "\
+Usage: mitrophel completion SHELL
+Print the completion script of SHELL: bash, zsh or fish. It knows commands,
+options and their fixed values. 'make install' puts all three in place.
+
+Example: in ~/.bashrc
+  source <(mitrophel completion bash)
 ";

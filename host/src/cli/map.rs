@@ -13,7 +13,7 @@ use mitrophel::Record;
 use std::ffi::OsString;
 use std::io::{self, Write};
 
-const GRAMMAR: Grammar = Grammar {
+pub const GRAMMAR: Grammar = Grammar {
     command: "map",
     values: &[
         "--board",

@@ -2,6 +2,8 @@
 
 mod args;
 mod audit;
+mod codes;
+mod completion;
 mod convert;
 mod demo;
 mod expect;
@@ -24,12 +26,27 @@ mod svg;
 mod system;
 mod words;
 
+use args::Grammar;
 use failure::{complain, shown, Failure, Status};
 use mitrophel::trace::{self, follow, listing, numbers};
 use std::env;
 use std::ffi::OsString;
 use std::io::{self, Write};
 use std::process::ExitCode;
+
+type Run = fn(&[OsString]) -> Result<Status, Failure>;
+
+/// Every command with its options and what runs it, in the order of the help.
+const COMMANDS: &[(Grammar, Run)] = &[
+    (replay::GRAMMAR, replay::run),
+    (convert::ASM, convert::asm),
+    (convert::DISASM, convert::disasm),
+    (map::GRAMMAR, map::run),
+    (audit::GRAMMAR, audit::run),
+    (demo::GRAMMAR, demo::run),
+    (codes::GRAMMAR, codes::run),
+    (completion::GRAMMAR, completion::run),
+];
 
 /// Runs the command that the program's arguments name.
 pub fn main() -> ExitCode {
@@ -52,7 +69,8 @@ fn run(words: &[OsString]) -> Result<Status, Failure> {
         "help" => return help_of(rest),
         _ => {}
     }
-    let Some(help) = help::of(&command) else {
+    let known = COMMANDS.iter().find(|(grammar, _)| grammar.command == command);
+    let (Some((_, run)), Some(help)) = (known, help::of(&command)) else {
         let known: Vec<&str> = help::COMMANDS.iter().map(|(name, _, _)| *name).collect();
         let found = shown(&words[0]);
         return Err(Failure::usage(format!("expected a command ({}), found '{found}'", known.join(", "))));
@@ -60,14 +78,7 @@ fn run(words: &[OsString]) -> Result<Status, Failure> {
     if asks_for_help(rest) {
         return say(help);
     }
-    match command.as_ref() {
-        "replay" => replay::run(rest),
-        "asm" => convert::asm(rest),
-        "disasm" => convert::disasm(rest),
-        "map" => map::run(rest),
-        "audit" => audit::run(rest),
-        _ => demo::run(rest),
-    }
+    run(rest)
 }
 
 /// `-h` or `--help` before any `--`.
@@ -103,4 +114,41 @@ fn version() -> String {
     let archive = concat!("libdesk.a sha256 ", env!("MITROPHEL_ARCHIVE_SHA256"));
     let toolchain = concat!("proved by ", env!("MITROPHEL_TOOLCHAIN"));
     format!("mitrophel {}\n{answers}\n{archive}\n{toolchain}\n", env!("CARGO_PKG_VERSION"))
+}
+
+#[cfg(test)]
+mod tests {
+    use super::*;
+
+    /// The options at the start of a help's line, and the word for the value of the last one.
+    fn options(line: &str) -> (Vec<&str>, Option<&str>) {
+        let mut words = line.split_whitespace().peekable();
+        let mut options = Vec::new();
+        while let Some(option) = words.next_if(|word| word.starts_with('-')) {
+            options.push(option.trim_end_matches(','));
+        }
+        let value = words.next().filter(|word| word.chars().all(|c| c.is_ascii_uppercase()));
+        (options, value)
+    }
+
+    #[test]
+    fn every_option_is_in_its_commands_help_and_the_other_way_round() {
+        for ((grammar, _), (command, _, help)) in COMMANDS.iter().zip(help::COMMANDS) {
+            assert_eq!(grammar.command, *command);
+            let mut told: Vec<(&str, bool)> = Vec::new();
+            for line in help.lines().filter(|line| line.trim_start().starts_with('-')) {
+                let (options, value) = options(line);
+                told.extend(options.iter().map(|option| (*option, value.is_some())));
+            }
+            let values = grammar.values.iter().map(|option| (*option, true));
+            let mut taken: Vec<(&str, bool)> =
+                values.chain(grammar.switches.iter().map(|option| (*option, false))).collect();
+            let shorts = args::SHORT.iter().filter(|(_, long)| grammar.values.contains(long));
+            taken.extend(shorts.map(|(short, _)| (*short, true)));
+            told.sort();
+            taken.sort();
+            assert_eq!(told, taken, "{command}");
+        }
+        assert_eq!(COMMANDS.len(), help::COMMANDS.len());
+    }
 }

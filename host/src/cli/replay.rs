@@ -19,7 +19,7 @@ use std::io::{self, IsTerminal, Write};
 use std::mem;
 use std::ops::Range;
 
-const GRAMMAR: Grammar = Grammar {
+pub const GRAMMAR: Grammar = Grammar {
     command: "replay",
     values: &["--board", "--memory", "--image", "--only", "--answers", "--dump", "--color"],
     switches: &[

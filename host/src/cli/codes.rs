@@ -1,0 +1,280 @@
+//! `explain`: when each code is given, by document 01's table and order, with an example that runs.
+
+use super::args::{self, Grammar};
+use super::failure::{Failure, Status};
+use super::{names, say, words};
+use mitrophel::Refusal;
+use std::ffi::OsString;
+
+pub const GRAMMAR: Grammar = Grammar { command: "explain", values: &[], switches: &[], files: 0 };
+
+/// Columns of the text.
+const WIDTH: usize = 79;
+
+/// The short name of code 1, which no answer holds and `--deny` does not take.
+const ARGUMENTS: &str = "arguments";
+
+/// The order in which the codes are looked at: "13, 2, then routing; then 10, or 9, 3, 4, 5, 7, 6. For the
+/// parser: 11, then empty check, then 8, 3, 4, 5, 7, 6, 12."
+const ORDERS: [(&str, &[u8]); 4] = [
+    ("at a memory-mapped register", &[13, 2, 10]),
+    (WINDOW, &[13, 2, 9, 3, 4, 5, 7, 6]),
+    ("any other access", &[13, 2]),
+    (PARSER, &[13, 11, 8, 3, 4, 5, 7, 6, 12]),
+];
+
+const WINDOW: &str = "through the window";
+const PARSER: &str = "parser run";
+
+/// Starts most examples.
+const DESK: &str = "\
+config write dev0.SMRAM 4Ch        # graphics on; A0000h-BFFFFh protected
+config write dev1.GMADR C0000000h  # the window
+config write dev1.MMADR F0000000h  # the registers
+config write dev1.PCICMD 2         # both on
+";
+
+/// What there is to say of a code.
+struct Code {
+    refusal: Refusal,
+    /// When it is given, and what to look at.
+    when: &'static str,
+    /// A trace whose last access alone is refused, and so: how it starts, and its own lines. None for code 1.
+    example: Option<(&'static str, &'static str)>,
+}
+
+const CODES: [Code; 13] = [
+    Code {
+        refusal: Refusal::Arguments,
+        when: "The call's own result: board kind not 0 or 1; memory no multiple of 8 MiB from 8 to 512 MiB; records not \
+               16 bytes each, or more than 65,535; answers not as long as the records. This program makes no such \
+               call: it refuses a wrong --board or --memory with exit status 2, and a file that ends within a record \
+               or is too long with exit status 3.",
+        example: None,
+    },
+    Code {
+        refusal: Refusal::Width,
+        when: "An access, kinds 1 to 7, whose width is not 1, 2 or 4, or whose bytes do not lie in one aligned word of \
+               4 bytes. Give it as two accesses.",
+        example: Some(("", "read4 1002h  # 2 bytes in each of two words\n")),
+    },
+    Code {
+        refusal: Refusal::TranslationOff,
+        when: "The window or the parser is used while PGTBL_CTL (2020h) bit 0 is 0. It is 0 after a reset.",
+        example: Some((DESK, "entry 0 100000h\nread4 WINDOW+0h\n")),
+    },
+    Code {
+        refusal: Refusal::EntryNotValid,
+        when: "The table entry of the graphics offset, offset / 4096 and after fencing, has bit 0 clear. All entries \
+               have after a reset.",
+        example: Some((DESK, "write PGTBL_CTL 1\nread4 WINDOW+1000h  # entry 1\n")),
+    },
+    Code {
+        refusal: Refusal::EntryType,
+        when: "The table entry is valid and its bits 2:1 are 01, display cache, or 10. Main memory is 00 or 11.",
+        example: Some((DESK, "write PGTBL_CTL 1\nwrite GTT[1] 100003h  # valid, type 01\nread4 WINDOW+1000h\n")),
+    },
+    Code {
+        refusal: Refusal::PageProtected,
+        when: "The table entry names a page of protected memory: A0000h-BFFFFh if SMRAM's LSMM (bits 3:2) is 10 or 11, \
+               or if HSEG acts; and the TSEG. Locked or not, and in management mode too. Somebody has aimed the window \
+               or the ring at the key.",
+        example: Some((DESK, "write PGTBL_CTL 1\nentry 1 A0000h\nread4 WINDOW+1000h\n")),
+    },
+    Code {
+        refusal: Refusal::PageAboveMemory,
+        when: "The table entry names a page at or above the top of memory, which is memory's length.",
+        example: Some((DESK, "write PGTBL_CTL 1\nentry 1 800000h  # memory is 8M\nread4 WINDOW+1000h\n")),
+    },
+    Code {
+        refusal: Refusal::OutsideWindow,
+        when: "The parser is to fetch at ring start + head offset, and that is not below the window's size: 64 MiB, or \
+               32 MiB if device 0's register 72h has bit 0 set.",
+        example: Some((
+            DESK,
+            "config write dev0.MISCC 1        # a window of 32 MiB\n\
+             write LP_RING_START 2000000h\n\
+             write LP_RING_TAIL 8\n\
+             write LP_RING_LENGTH 1           # 4 KiB, enabled\n\
+             run 1\n",
+        )),
+    },
+    Code {
+        refusal: Refusal::FenceIllFormed,
+        when: "A processor's access through the window matches a fence, the lowest matching number counting, that has \
+               size code 7, pitch code 6 or 7, the walk bit set, or a start that is no multiple of its size. The parser \
+               is not fenced.",
+        example: Some((DESK, "write FENCE0 71h  # valid, pitch code 7\nread4 WINDOW+0h\n")),
+    },
+    Code {
+        refusal: Refusal::NotExactlyRegister,
+        when: "An access in the 512 KiB at MMADR touches a listed register and is not exactly that register. Those at \
+               20A0h, 20A4h, 20A8h and 20ACh have 2 bytes, all others 4.",
+        example: Some((DESK, "read2 PGTBL_CTL\n")),
+    },
+    Code {
+        refusal: Refusal::RingOffset,
+        when: "A run finds the ring's head or tail offset not below the ring's length. A ring that is not enabled ends \
+               the run before that, with code 0; equal offsets end it after that.",
+        example: Some((DESK, "write LP_RING_LENGTH 1  # 4 KiB, enabled\nwrite LP_RING_TAIL 1000h\nrun 1\n")),
+    },
+    Code {
+        refusal: Refusal::UnknownInstruction,
+        when: "The word that the parser fetched has bits 31:29 not zero, or bits 28:23 other than 00h (nothing), 02h \
+               (user interrupt) and 04h (flush).",
+        example: Some((
+            DESK,
+            "write PGTBL_CTL 1\n\
+             entry 0 100000h\n\
+             write4 100000h 00800000h  # bits 28:23 are 01h\n\
+             write LP_RING_LENGTH 1    # 4 KiB, enabled\n\
+             write LP_RING_TAIL 8\n\
+             run 1\n",
+        )),
+    },
+    Code {
+        refusal: Refusal::Layout,
+        when: "The record's kind is not 1 to 9; a flag is set that its kind does not have; byte 3 or bytes 12-15 are \
+               not zero; a read or reset has data; a run or reset has a width or an address; or an I/O address is above \
+               65,535. The list is damaged, or was not written by this program.",
+        example: Some(("", "raw 01 04 00 00 00 00 01 00 00 00 00 00 00 00 00 00  # port 10000h\n")),
+    },
+];
+
+/// `mitrophel explain`
+pub fn run(words: &[OsString]) -> Result<Status, Failure> {
+    match words {
+        [] => say(&list()),
+        [word] => match named(&word.to_string_lossy()) {
+            Some(code) => say(&code.text()),
+            None => {
+                Err(usage(&format!("expected a code, 1 to 13 or {}, found '{}'", names().join(", "), word.display())))
+            }
+        },
+        _ => Err(usage("expected one code")),
+    }
+}
+
+fn usage(message: &str) -> Failure {
+    args::usage(GRAMMAR.command, message)
+}
+
+/// The short names of all codes.
+pub fn names() -> Vec<&'static str> {
+    CODES.iter().map(Code::name).collect()
+}
+
+fn named(text: &str) -> Option<&'static Code> {
+    CODES.iter().find(|code| code.name().eq_ignore_ascii_case(text) || code.refusal.code().to_string() == text)
+}
+
+fn list() -> String {
+    CODES
+        .iter()
+        .map(|code| paragraph(&format!("{:>2} {:<15}", code.refusal.code(), code.name()), code.refusal.reason()))
+        .collect()
+}
+
+/// Text beside a heading.
+fn paragraph(heading: &str, text: &str) -> String {
+    let margin = heading.len() + 1;
+    let lines = words::wrapped(text, WIDTH - margin);
+    let blank = " ".repeat(heading.len());
+    let headings = std::iter::once(heading).chain(std::iter::repeat(blank.as_str()));
+    headings.zip(lines).map(|(heading, line)| format!("{heading} {line}\n")).collect()
+}
+
+impl Code {
+    fn name(&self) -> &'static str {
+        let named = names::REFUSALS.iter().find(|(refusal, _)| *refusal == self.refusal);
+        named.map_or(ARGUMENTS, |(_, name)| *name)
+    }
+
+    fn text(&self) -> String {
+        let heading = paragraph(&format!("{} {}:", self.refusal.code(), self.name()), self.refusal.reason());
+        let when = paragraph("When  ", self.when);
+        let (order, answer) = (self.order(), paragraph("Answer", self.answer()));
+        format!("{heading}\n{when}\n{order}\n{answer}\n{}", self.example())
+    }
+
+    /// What is looked at before this code and after it, for each kind of record that it is given to.
+    fn order(&self) -> String {
+        let code = self.refusal.code();
+        if self.refusal == Refusal::Arguments {
+            return paragraph("Order ", "Before any record.");
+        }
+        let marked = |other: &u8| if *other == code { format!("[{other}]") } else { other.to_string() };
+        let ways = ORDERS.iter().filter(|(_, order)| order.contains(&code)).map(|(way, order)| {
+            let order: Vec<String> = order.iter().map(marked).collect();
+            format!("{way:<28} {}\n", order.join(", "))
+        });
+        let headings = std::iter::once("Order ").chain(std::iter::repeat("      "));
+        headings.zip(ways).map(|(heading, way)| format!("{heading} {way}")).collect()
+    }
+
+    fn answer(&self) -> &'static str {
+        let code = self.refusal.code();
+        let given_to = |way| ORDERS.iter().any(|(own, order)| *own == way && order.contains(&code));
+        match (self.refusal, given_to(WINDOW), given_to(PARSER)) {
+            (Refusal::Arguments, _, _) => "None: the call gives 1 and touches neither memory nor answers.",
+            (Refusal::Layout, _, _) | (_, _, false) => {
+                "The code and the interrupt line, all else zero. No register, table word or memory byte changes."
+            }
+            (_, false, true) => {
+                "The code, the interrupt line, the ring's head and the count of steps that the run completed, which stay \
+                 done."
+            }
+            (_, true, true) => {
+                "The code and the interrupt line, all else zero. No register, table word or memory byte changes. A \
+                 parser run keeps the steps that it completed, and its answer holds head and count too."
+            }
+        }
+    }
+
+    fn example(&self) -> String {
+        match self.example {
+            Some((start, own)) => {
+                let code = self.refusal.code();
+                format!("Example, for a shell: the last access is refused {code}.\nmitrophel replay - <<'END'\n{start}{own}END\n")
+            }
+            None => "Example, in C: 4096 bytes are no board's memory.\n\
+                     gmch_replay(0, memory, 4096, records, 16, answers, 16)\n"
+                .to_string(),
+        }
+    }
+}
+
+#[cfg(test)]
+mod tests {
+    use super::super::trace;
+    use super::*;
+    use mitrophel::{call, record, replay_records, Board};
+
+    /// Every example's last access is refused with its code, and no other access is refused.
+    #[test]
+    fn every_example_gives_its_code() {
+        for (code, refusal) in CODES.iter().zip(Refusal::ALL) {
+            assert_eq!(code.refusal, refusal);
+            let Some((start, own)) = code.example else { continue };
+            let assembled = trace::assemble(&format!("{start}{own}")).expect("a good trace");
+            let records: Vec<_> = record::decode(&assembled.records).collect();
+            let answers = replay_records(Board::I82810, &mut vec![0; 8 << 20], &records).expect("good arguments");
+            let (last, before) = answers.split_last().expect("an access");
+            assert_eq!(last.refusal(), Some(refusal));
+            assert!(before.iter().all(|answer| answer.code == 0), "{refusal}");
+        }
+        assert_eq!(call::gmch_replay(0, &mut [0; 4096], &[0; 16], &mut [0; 16]), 1);
+    }
+
+    /// Every code of an answer has its place in an order, and no text is wider than a terminal.
+    #[test]
+    fn every_code_has_an_order_and_fits() {
+        for code in &CODES {
+            let text = code.text();
+            assert!(text.lines().all(|line| line.len() <= WIDTH), "{text}");
+            let place = format!("[{}]", code.refusal.code());
+            assert_eq!(text.contains(&place), code.refusal != Refusal::Arguments, "{text}");
+        }
+        assert!(list().lines().all(|line| line.len() <= WIDTH));
+    }
+}
