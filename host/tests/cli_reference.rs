@@ -2,9 +2,9 @@
 
 mod cli;
 
-use cli::{folder, run, DONE, USAGE};
+use cli::{folder, run, word, DONE, USAGE};
 use std::fs;
-use std::path::Path;
+use std::path::{Path, PathBuf};
 use std::process::Command;
 
 /// The archive that is in the program is the one that lies in `target`, by the tool that a user has.
@@ -131,4 +131,40 @@ fn a_code_has_a_number_and_a_name() {
         assert_eq!((run.status, run.text.as_str()), (USAGE, ""));
         assert!(run.errors.contains("expected "), "{}", run.errors);
     }
+}
+
+/// `make` of this target, below a folder, with the program under test and nothing built.
+fn make(target: &str, folder: &Path) {
+    let mut make = Command::new("make");
+    make.args(["-C", concat!(env!("CARGO_MANIFEST_DIR"), "/.."), "-o", "build", target, "PREFIX=/opt/desk"]);
+    make.arg(format!("DESTDIR={}", word(folder))).arg(concat!("PROGRAM=", env!("CARGO_BIN_EXE_mitrophel")));
+    let run = make.env_remove("MAKEFLAGS").env_remove("MAKELEVEL").output().expect("make runs");
+    assert!(run.status.success(), "{run:?}");
+}
+
+/// The files below a folder.
+fn files(folder: &Path) -> Vec<PathBuf> {
+    let entries = fs::read_dir(folder).expect("a folder").map(|entry| entry.expect("an entry").path());
+    entries.flat_map(|path| if path.is_dir() { files(&path) } else { vec![path] }).collect()
+}
+
+#[test]
+fn an_installation_is_whole_and_goes_whole() {
+    let folder = folder("make install");
+    make("install", &folder);
+    let share = folder.join("opt/desk/share");
+    for (file, shell) in [
+        ("bash-completion/completions/mitrophel", "bash"),
+        ("zsh/site-functions/_mitrophel", "zsh"),
+        ("fish/vendor_completions.d/mitrophel.fish", "fish"),
+    ] {
+        assert_eq!(fs::read(share.join(file)).expect("a script"), run(&["completion", shell]).out);
+    }
+    let page = fs::read(concat!(env!("CARGO_MANIFEST_DIR"), "/mitrophel.1")).expect("the manual page");
+    assert_eq!(fs::read(share.join("man/man1/mitrophel.1")).expect("the manual page"), page);
+    let program = Command::new(folder.join("opt/desk/bin/mitrophel")).arg("--version").output().expect("it runs");
+    assert_eq!(program.stdout, run(&["--version"]).out);
+    assert_eq!(files(&folder).len(), 5);
+    make("uninstall", &folder);
+    assert_eq!(files(&folder), [PathBuf::new(); 0]);
 }
