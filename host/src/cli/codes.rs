@@ -186,8 +186,10 @@ fn paragraph(heading: &str, text: &str) -> String {
 
 impl Code {
     fn name(&self) -> &'static str {
-        let named = names::REFUSALS.iter().find(|(refusal, _)| *refusal == self.refusal);
-        named.map_or(ARGUMENTS, |(_, name)| *name)
+        match self.refusal {
+            Refusal::Arguments => ARGUMENTS,
+            refusal => names::refusal_name(refusal),
+        }
     }
 
     fn text(&self) -> String {

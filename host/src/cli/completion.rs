@@ -2,13 +2,15 @@
 
 use super::args::{self, Grammar};
 use super::failure::{Failure, Status};
-use super::{codes, help, names, say, COMMANDS};
+use super::{codes, help, names, only, say, COMMANDS};
 use mitrophel::Board;
 use std::ffi::OsString;
 
 pub const GRAMMAR: Grammar = Grammar { command: "completion", values: &[], switches: &[], files: 0 };
 
-const SHELLS: [(&str, fn() -> String); 3] = [("bash", bash), ("zsh", zsh), ("fish", fish)];
+type Script = fn() -> String;
+
+const SHELLS: [(&str, Script); 3] = [("bash", bash), ("zsh", zsh), ("fish", fish)];
 
 /// `mitrophel completion`
 pub fn run(words: &[OsString]) -> Result<Status, Failure> {
@@ -37,12 +39,17 @@ fn value(option: &str) -> Offer {
     Offer::Words(match option {
         "--board" => Board::ALL.map(Board::name).to_vec(),
         "--color" => args::COLOURS.map(|(name, _)| name).to_vec(),
-        "--deny" => names::REFUSALS.iter().map(|(_, name)| *name).chain(["all"]).collect(),
+        "--deny" => refusals().chain(["all"]).collect(),
+        "--only" => only::NAMES.iter().map(|(name, _)| *name).chain(refusals()).collect(),
         "--memory" => vec!["8M", "16M", "32M", "64M", "128M", "256M", "512M"],
         "--window-size" => vec!["32M", "64M"],
         "--smram" | "--window" | "--registers" => Vec::new(),
         _ => return Offer::Files,
     })
+}
+
+fn refusals() -> impl Iterator<Item = &'static str> {
+    names::REFUSALS.iter().map(|(_, name)| *name)
 }
 
 /// What a command takes besides options.
