@@ -1,7 +1,7 @@
 //! `explain`: when each code is given, by document 01's table and order, with an example that runs.
 
 use super::args::{self, Grammar};
-use super::failure::{Failure, Status};
+use super::failure::{shown, Failure, Status};
 use super::{names, say, words};
 use mitrophel::Refusal;
 use std::ffi::OsString;
@@ -147,9 +147,7 @@ pub fn run(words: &[OsString]) -> Result<Status, Failure> {
         [] => say(&list()),
         [word] => match named(&word.to_string_lossy()) {
             Some(code) => say(&code.text()),
-            None => {
-                Err(usage(&format!("expected a code, 1 to 13 or {}, found '{}'", names().join(", "), word.display())))
-            }
+            None => Err(usage(&format!("expected a code, 1 to 13 or {}, found '{}'", names().join(", "), shown(word)))),
         },
         _ => Err(usage("expected one code")),
     }

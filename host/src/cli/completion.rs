@@ -1,7 +1,7 @@
 //! `completion`: scripts by which shells complete a command line, made from the table of commands.
 
 use super::args::{self, Grammar};
-use super::failure::{Failure, Status};
+use super::failure::{shown, Failure, Status};
 use super::{codes, help, names, only, say, COMMANDS};
 use mitrophel::Board;
 use std::ffi::OsString;
@@ -17,7 +17,7 @@ pub fn run(words: &[OsString]) -> Result<Status, Failure> {
     match words {
         [word] => match SHELLS.iter().find(|(name, _)| word == name) {
             Some((_, script)) => say(&script()),
-            None => Err(usage(&format!("expected bash, zsh or fish, found '{}'", word.display()))),
+            None => Err(usage(&format!("expected bash, zsh or fish, found '{}'", shown(word)))),
         },
         _ => Err(usage("expected one shell: bash, zsh or fish")),
     }
