@@ -10,13 +10,16 @@ use mitrophel::{Kind, Refusal, Target};
 /// The kinds of records that are told; all of them where none is named.
 pub struct Only(Vec<Test>);
 
+/// Whether a record is of a kind.
+type Is = fn(&Step<'_, '_>) -> bool;
+
 enum Test {
-    Named(fn(&Step<'_, '_>) -> bool),
+    Named(Is),
     Refused(Refusal),
 }
 
 /// What `--only` takes beside the refusals' own names and codes.
-pub const NAMES: &[(&str, fn(&Step<'_, '_>) -> bool)] = &[
+pub const NAMES: &[(&str, Is)] = &[
     ("refused", |step| step.answer.code != 0),
     ("answered", |step| step.answer.code == 0),
     ("memory", |step| step.answer.target() == Some(Target::Memory)),
