@@ -140,7 +140,7 @@ fn config(records: &[Record]) -> Option<Line> {
         _ => return None,
     };
     let smram = access.kind() == Some(Kind::IoWrite) && name == "dev0.SMRAM";
-    let comment = smram.then(|| words::smram(Smram(access.data as u8 & !1)));
+    let comment = smram.then(|| as_written(&words::smram(Smram(access.data as u8 & !1))));
     Some(Line { taken: 2, text, comment })
 }
 
@@ -170,7 +170,12 @@ fn entry(record: &Record, bases: Bases) -> Option<(u32, u32)> {
     (*record == Record::write(address, 4, page | 1, false)).then_some((entry, page))
 }
 
-/// What a reader may want to know of a record.
+/// What a value says. Whether it gets where it is written to depends on what came before.
+fn as_written(text: &str) -> String {
+    format!("as written: {text}")
+}
+
+/// What a reader may want to know of a record, as far as it shows it alone.
 fn comment(record: &Record, bases: Bases) -> Option<String> {
     if !record.keeps_layout() {
         return Some(words::layout_fault(record));
@@ -182,8 +187,8 @@ fn comment(record: &Record, bases: Bases) -> Option<String> {
         return None;
     }
     match bases.register_offset(record.address)? {
-        offset @ 0x2000..=0x201C if offset.is_multiple_of(4) => Some(words::fence(Fence(record.data))),
-        offset if names::entry_at(offset).is_some() => Some(words::entry(record.data)),
+        offset @ 0x2000..=0x201C if offset.is_multiple_of(4) => Some(as_written(&words::fence(Fence(record.data)))),
+        offset if names::entry_at(offset).is_some() => Some(as_written(&words::entry(record.data))),
         _ => None,
     }
 }

@@ -102,7 +102,7 @@ const DEVICE_1: &[Register] = &[
 pub const DEVICES: [&[Register]; 2] = [DEVICE_0, DEVICE_1];
 
 /// The listed memory-mapped registers but the table's.
-const MAPPED: &[Register] = &[
+pub const MAPPED: &[Register] = &[
     register(0x2000, 4, "FENCE0"),
     register(0x2004, 4, "FENCE1"),
     register(0x2008, 4, "FENCE2"),

@@ -1,0 +1,184 @@
+//! Text traces: what their names stand for, and what goes from text to records and back.
+
+mod cli;
+
+use cli::{run_with, DONE};
+use mitrophel::trace::{assemble, names};
+use mitrophel::{record, replay, Answer, Target};
+
+/// The proved call's answers to a trace.
+fn answers(trace: &str) -> Vec<Answer> {
+    let records = assemble(trace).unwrap_or_else(|errors| panic!("{errors}")).records;
+    let (mut memory, mut answers) = (vec![0; 8 << 20], vec![0; records.len()]);
+    replay(0, &mut memory, &records, &mut answers).expect("good arguments");
+    record::decode_answers(&answers).collect()
+}
+
+/// The datasheet's two tables: symbol, offset, size; and what a cold 82810 reads there, which is 0 for a
+/// register that document 01 does not list.
+const CONFIGURATION: [&[(&str, u32, u8, u32)]; 2] = [
+    &[
+        ("VID", 0x00, 2, 0x8086),
+        ("DID", 0x02, 2, 0x7120),
+        ("PCICMD", 0x04, 2, 0x0006),
+        ("PCISTS", 0x06, 2, 0x0080),
+        ("RID", 0x08, 1, 0x02),
+        ("SUBC", 0x0A, 1, 0),
+        ("BCC", 0x0B, 1, 0x06),
+        ("MLT", 0x0D, 1, 0),
+        ("HDR", 0x0E, 1, 0),
+        ("SVID", 0x2C, 2, 0),
+        ("SID", 0x2E, 2, 0),
+        ("CAPPTR", 0x34, 1, 0),
+        ("GMCHCFG", 0x50, 1, 0),
+        ("PAMR", 0x51, 1, 0),
+        ("DRP", 0x52, 1, 0),
+        ("DRAMT", 0x53, 1, 0),
+        ("FDHC", 0x58, 1, 0),
+        ("SMRAM", 0x70, 1, 0x40),
+        ("MISCC", 0x72, 2, 0),
+        ("MISCC2", 0x80, 1, 0),
+        ("BUFF_SC", 0x92, 2, 0xFFFF),
+    ],
+    &[
+        ("VID", 0x00, 2, 0x8086),
+        ("DID", 0x02, 2, 0x7121),
+        ("PCICMD", 0x04, 2, 0x0004),
+        ("PCISTS", 0x06, 2, 0),
+        ("RID", 0x08, 1, 0),
+        ("PI", 0x09, 1, 0),
+        ("SUBC", 0x0A, 1, 0),
+        ("BCC", 0x0B, 1, 0x03),
+        ("CLS", 0x0C, 1, 0),
+        ("MLT", 0x0D, 1, 0),
+        ("HDR", 0x0E, 1, 0),
+        ("BIST", 0x0F, 1, 0),
+        ("GMADR", 0x10, 4, 0x0000_0008),
+        ("MMADR", 0x14, 4, 0),
+        ("SVID", 0x2C, 2, 0),
+        ("SID", 0x2E, 2, 0),
+        ("ROMADR", 0x30, 4, 0),
+        ("CAPPOINT", 0x34, 1, 0xDC),
+        ("INTRLINE", 0x3C, 1, 0),
+        ("INTRPIN", 0x3D, 1, 0x01),
+        ("MINGNT", 0x3E, 1, 0),
+        ("MAXLAT", 0x3F, 1, 0),
+        ("PM_CAPID", 0xDC, 2, 0x0001),
+        ("PM_CAP", 0xDE, 2, 0x0021),
+        ("PM_CS", 0xE0, 2, 0),
+    ],
+];
+
+/// Device 1 answers while graphics is on.
+const GRAPHICS: &str = "config write dev0.SMRAM 40h\n";
+
+#[test]
+fn every_configuration_register_is_reached_by_its_name() {
+    for (device, rows) in CONFIGURATION.iter().enumerate() {
+        let known: Vec<&str> = names::DEVICES[device].iter().map(|register| register.name).collect();
+        assert_eq!(rows.iter().map(|row| row.0).collect::<Vec<_>>(), known, "device {device}: a row for each name");
+        for (name, at, bytes, cold) in *rows {
+            let trace = format!("{GRAPHICS}config read dev{device}.{name}\n");
+            let answer = *answers(&trace).last().expect("an answer");
+            assert_eq!((answer.code, answer.target()), (0, Some(Target::Register)), "dev{device}.{name}");
+            assert_eq!((answer.address, answer.value), (device as u32 * 256 + at, *cold), "dev{device}.{name}");
+            let access = record::decode(&assemble(&trace).expect("a trace").records).last();
+            assert_eq!(access.map(|access| access.width), Some(*bytes), "dev{device}.{name}");
+        }
+    }
+}
+
+/// Symbol, offset, size, and a value that the register keeps; none where it does not keep what is written.
+const MAPPED: [(&str, u32, u8, Option<u32>); 17] = [
+    ("FENCE0", 0x2000, 4, Some(0x0008_0001)),
+    ("FENCE1", 0x2004, 4, Some(0x0010_0011)),
+    ("FENCE2", 0x2008, 4, Some(0x0018_0021)),
+    ("FENCE3", 0x200C, 4, Some(0x0020_0031)),
+    ("FENCE4", 0x2010, 4, Some(0x0028_0041)),
+    ("FENCE5", 0x2014, 4, Some(0x0030_0051)),
+    ("FENCE6", 0x2018, 4, Some(0x0038_0061)),
+    ("FENCE7", 0x201C, 4, Some(0x0040_0071)),
+    ("PGTBL_CTL", 0x2020, 4, Some(0xABCD_E001)),
+    ("LP_RING_TAIL", 0x2030, 4, Some(0x0012_3458)),
+    ("LP_RING_HEAD", 0x2034, 4, Some(0x0043_2104)),
+    ("LP_RING_START", 0x2038, 4, Some(0x0123_4000)),
+    ("LP_RING_LENGTH", 0x203C, 4, Some(0x0000_5001)),
+    ("IER", 0x20A0, 2, Some(0x0002)),
+    ("IIR", 0x20A4, 2, None),
+    ("IMR", 0x20A8, 2, Some(0xFFFD)),
+    ("ISR", 0x20AC, 2, None),
+];
+
+/// Graphics on and decoding, the registers at F0000000h.
+fn registers() -> String {
+    format!("{GRAPHICS}config write dev1.MMADR F0000000h\nconfig write dev1.PCICMD 2\n")
+}
+
+#[test]
+fn every_memory_mapped_register_is_reached_by_its_name() {
+    let known: Vec<&str> = names::MAPPED.iter().map(|register| register.name).collect();
+    assert_eq!(MAPPED.map(|row| row.0).to_vec(), known, "a row for each name");
+    let entries = [("GTT[0]", 0x1_0000, 4, Some(0x1001)), ("GTT[16383]", 0x1_FFFC, 4, Some(0x2001))];
+    for (name, at, bytes, kept) in MAPPED.into_iter().chain(entries) {
+        // A register is reached by exactly its own width alone.
+        let read = *answers(&format!("{}read {name}\n", registers())).last().expect("an answer");
+        assert_eq!((read.code, read.target(), read.address), (0, Some(Target::MemoryMapped), at), "{name}");
+        let Some(kept) = kept else { continue };
+        let trace = format!("{}write {name} {kept}\nread{bytes} MMIO+{at:X}h\n", registers());
+        assert_eq!(answers(&trace).last().map(|answer| answer.value), Some(kept), "{name}");
+    }
+}
+
+/// A pending user interrupt is seen in IIR and ISR alone, and IIR is cleared by its own bit.
+#[test]
+fn the_two_registers_that_keep_no_data_are_told_apart() {
+    let ring = "entry 0 100000h\nwrite PGTBL_CTL 1\nwrite LP_RING_START 0\nwrite LP_RING_LENGTH 1\n\
+                write4 100000h 01000000h\nwrite LP_RING_TAIL 8\nwrite IMR FFFDh\nwrite IER 2\nrun 1\n";
+    let after = |statements: &str| {
+        let answers = answers(&format!("{}{ring}{statements}", registers()));
+        answers.last().expect("an answer").value
+    };
+    assert_eq!(after("read IIR\n"), 2);
+    assert_eq!(after("read2 MMIO+20A4h\n"), 2);
+    assert_eq!(after("write IIR 2\nread2 MMIO+20A4h\n"), 0);
+    assert_eq!(after("write ISR 2\nread2 MMIO+20A4h\n"), 2);
+}
+
+#[test]
+fn the_two_ports_are_reached_by_their_names() {
+    let trace = "out4 CONFIG_ADDRESS 80000000h\nin4 CF8h\nin2 CONFIG_DATA+2\n";
+    let values: Vec<u32> = answers(trace).iter().map(|answer| answer.value).collect();
+    assert_eq!(values, [0, 0x8000_0000, 0x7120]);
+}
+
+/// More than 16,777,216 records.
+#[test]
+fn a_trace_may_have_any_number_of_records() {
+    let trace = format!("{GRAPHICS}config write dev1.MMADR F0000000h\n{}", "entries 0..16383 0\n".repeat(1025));
+    let run = run_with(&["asm", "-", "-o", "/dev/null"], trace.as_bytes());
+    assert_eq!((run.status, run.errors.as_str()), (DONE, ""));
+}
+
+/// After the lock a write of SMRAM has no effect, and an entry's write may go anywhere: a comment says what
+/// the value says, not what happens.
+#[test]
+fn comments_of_a_listing_say_what_is_written() {
+    let trace = format!(
+        "{}config write dev0.SMRAM 42h\nconfig write dev0.SMRAM 8Ch\nreset\nconfig write dev0.SMRAM 40h\n\
+         config write dev1.MMADR 00100000h\nwrite4 MMIO+10000h 3\nwrite4 MMIO+2000h 21h\n",
+        registers()
+    );
+    let listing = run_with(&["disasm", "-"], &run_with(&["asm", "-"], trace.as_bytes()).out);
+    let comments: Vec<&str> = listing.text.lines().filter_map(|line| line.split_once(" # ")).map(|(_, c)| c).collect();
+    assert_eq!(
+        comments,
+        [
+            "as written: graphics on, nothing taken",
+            "as written: graphics on, nothing taken; locked",
+            "as written: graphics on, 512 KiB taken; A0000h-BFFFFh for management mode",
+            "as written: graphics on, nothing taken",
+            "as written: display cache page 0h",
+            "as written: 512 KiB at 0h, pitch 512",
+        ]
+    );
+}
