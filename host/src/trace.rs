@@ -8,6 +8,8 @@
 //! master read4 1000h                 master write4 1000h 7
 //! config write dev0.SMRAM BEh        config read4 dev1.2Ch
 //! entry 10 A0000h                    entries 0..15 100000h
+//! word 100000h noop flush            bytes 1000h 0A FF      string 1000h "key"
+//! set KEY A0000h                     include setup.trace
 //! run 1000                           reset
 //! raw 02 04 00 00 F8 0C 00 00 00 00 00 80 00 00 00 00
 //! ```
@@ -36,6 +38,7 @@ mod line;
 pub mod listing;
 pub mod names;
 pub mod numbers;
+mod reader;
 mod statement;
 pub mod words;
 

@@ -2,15 +2,16 @@
 
 mod cli;
 
-use cli::{run_with, DONE};
+use cli::{folder, run, run_with, word, DONE, FILE, INPUT};
 use mitrophel::trace::{assemble, names};
-use mitrophel::{record, replay, Answer, Target};
+use mitrophel::{record, replay, Answer, Board, Record, Target};
+use std::fs;
 
 /// The proved call's answers to a trace.
 fn answers(trace: &str) -> Vec<Answer> {
     let records = assemble(trace).unwrap_or_else(|errors| panic!("{errors}")).records;
     let (mut memory, mut answers) = (vec![0; 8 << 20], vec![0; records.len()]);
-    replay(0, &mut memory, &records, &mut answers).expect("good arguments");
+    replay(Board::I82810, &mut memory, &records, &mut answers).expect("good arguments");
     record::decode_answers(&answers).collect()
 }
 
@@ -181,4 +182,74 @@ fn comments_of_a_listing_say_what_is_written() {
             "as written: 512 KiB at 0h, pitch 512",
         ]
     );
+}
+
+/// A ring program by its mnemonics: two steps and an interrupt.
+#[test]
+fn a_ring_program_may_be_written_in_words() {
+    let trace = format!(
+        "{}set RING 100000h\nword RING noop user_interrupt flush 0\nentry 0 RING\nwrite PGTBL_CTL 1\n\
+         write LP_RING_LENGTH 1\nwrite LP_RING_TAIL 10h\nrun 10\nread IIR\n",
+        registers()
+    );
+    let answers = answers(&trace);
+    let [.., ran, _] = answers.as_slice() else { panic!("an answer for each record") };
+    assert_eq!((ran.code, ran.count), (0, 4));
+}
+
+#[test]
+fn a_trace_includes_others_of_its_folder() {
+    let folder = folder("include");
+    fs::create_dir(folder.join("parts and more")).expect("a folder");
+    let (desk, setup) = (folder.join("desk.trace"), folder.join("parts and more/setup.trace"));
+    fs::write(&desk, "include \"parts and more/setup.trace\"\nread4 WINDOW+KEY\n").expect("a trace");
+    fs::write(&setup, "include more.inc\nconfig write dev1.GMADR C0000000h\n").expect("a trace");
+    fs::write(folder.join("parts and more/more.inc"), "set KEY 8\nconfig write dev0.SMRAM 40h\n").expect("a trace");
+    let found = run(&["asm", &word(&desk)]);
+    assert_eq!((found.status, found.errors.as_str()), (DONE, ""));
+    assert_eq!(record::decode(&found.out).last(), Some(Record::read(0xC000_0008, 4, false)));
+
+    // From standard input: relative to the current folder.
+    let standard = format!("include \"{}\"\nread4 WINDOW+KEY\n", word(&setup));
+    assert!(run_with(&["asm", "-"], standard.as_bytes()).out == found.out);
+    let mut command = cli::program();
+    command.args(["asm", "desk.trace"]).current_dir(&folder);
+    assert!(command.output().expect("the program ends").stdout == found.out);
+
+    // A denied refusal and a mistake are told where they stand.
+    fs::write(folder.join("parts and more/more.inc"), "read3 0\n").expect("a trace");
+    let denied = run(&["audit", "--deny", "all", &word(&desk)]);
+    assert_eq!(denied.status, INPUT, "WINDOW has no base now");
+    fs::write(&desk, "include \"parts and more/more.inc\"\n").expect("a trace");
+    let denied = run(&["audit", "--deny", "all", &word(&desk)]);
+    assert!(denied.errors.contains("parts and more/more.inc:1: refused 2"), "{}", denied.errors);
+}
+
+#[test]
+fn an_include_that_cannot_be_read_is_a_file_error() {
+    let folder = folder("no-include");
+    let desk = folder.join("desk.trace");
+    fs::write(&desk, "reset\ninclude none.trace\n").expect("a trace");
+    let missing = run(&["asm", &word(&desk)]);
+    let place = format!(
+        "{}:2:9: '{}' cannot be read: No such file or directory\n",
+        word(&desk),
+        word(&folder.join("none.trace"))
+    );
+    assert_eq!((missing.status, missing.out.len()), (FILE, 0));
+    assert!(missing.errors.starts_with(&place), "{}", missing.errors);
+    fs::write(&desk, "include desk.trace\n").expect("a trace");
+    let cycle = run(&["asm", &word(&desk)]);
+    assert_eq!(cycle.status, INPUT);
+    assert!(cycle.errors.contains("expected a file that does not include itself: "), "{}", cycle.errors);
+}
+
+#[test]
+fn a_decimal_address_is_warned_of_and_taken() {
+    let trace = "read4 4096\n".repeat(30);
+    let found = run_with(&["asm", "-"], trace.as_bytes());
+    assert_eq!((found.status, found.out.len()), (DONE, 30 * 16));
+    let warning = "standard input:1:7: warning: 4096 is decimal (1000h); if it is meant as hexadecimal write 4096h";
+    assert_eq!(found.errors.lines().next(), Some(warning));
+    assert_eq!(found.errors.lines().count(), 20);
 }

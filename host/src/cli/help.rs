@@ -98,8 +98,9 @@ Turn the text trace FILE ('-': standard input) into records of 16 bytes.
   -o, --output FILE  where the records go
                      (default: standard output, if it is no terminal)
 
-One access a line; '#' starts a comment. N is the width: 1, 2 or 4. Numbers are
-4096, 0x1000 or 1000h.
+One access a line; '#' starts a comment, and '#>' what is expected of the
+line's access, or of the nearest one above. N is the width: 1, 2 or 4. Numbers
+are 4096, 0x1000 or 1000h; a decimal address of 10 or more is warned of.
   inN PORT               outN PORT DATA            I/O
   readN PLACE            writeN PLACE DATA         processor data
   fetchN PLACE                                     processor code
@@ -110,6 +111,10 @@ One access a line; '#' starts a comment. N is the width: 1, 2 or 4. Numbers are
 Several records:
   config readN REGISTER  config writeN REGISTER DATA   CF8h, then CFCh
   entry I PAGE           entries I..J PAGE             valid table entries
+  word PLACE DATA..      bytes PLACE BYTE..            memory is filled; also
+  string PLACE \"TEXT\"                                 after smm or master
+No record:
+  set NAME DATA          include FILE                  a constant; a trace
 
 PORT      a number, CONFIG_ADDRESS or CONFIG_DATA+n
 PLACE     a number, WINDOW+n, MMIO+n, GTT[i], FENCE0 to FENCE7, PGTBL_CTL,
@@ -117,7 +122,16 @@ PLACE     a number, WINDOW+n, MMIO+n, GTT[i], FENCE0 to FENCE7, PGTBL_CTL,
           IMR or ISR; a register's name needs no width. The names stand at
           MMADR and GMADR as the records before have left them.
 REGISTER  dev0.SMRAM, dev1.GMADR and so on, by the datasheet's symbols, which
-          need no width, or dev0.70h
+          need no width, or its number in hexadecimal: dev0.70
+DATA      a number, or an instruction of the ring parser: noop, user_interrupt
+          or flush
+BYTE      two hexadecimal digits, or a number to 255
+TEXT      written as UTF-8 without a zero at its end; \\n, \\t, \\\\, \\\", \\0 and
+          \\xHH stand for single bytes
+NAME      two or more letters, digits and underscores; NAME and NAME+n then are
+          numbers of every sort
+FILE      in quotes if it has blanks; looked for in the folder of the trace
+          that includes it, from standard input in the current one
 
 Example:
   printf 'config write dev0.SMRAM BEh\\n' | mitrophel asm - | xxd

@@ -1,12 +1,12 @@
 //! Record lists and memories as commands take them.
 
 use super::args::Options;
-use super::failure::{shown, Failure};
+use super::failure::{complain, shown, Failure, Status};
 use super::files::{Input, Source};
 use super::{numbers, pair, trace};
 use mitrophel::record::{MAX_RECORDS, RECORD_BYTES};
 use mitrophel::trace::{Assembled, Expectation, Place};
-use std::fs;
+use std::io;
 use std::ops::Range;
 
 /// The two forms of a list.
@@ -74,11 +74,17 @@ impl List {
     /// A text trace.
     pub fn text(name: String, bytes: &[u8]) -> Result<List, Failure> {
         let text = String::from_utf8_lossy(bytes);
-        let assembled = trace::assemble_with(&name, &text, &mut |path| {
-            fs::read(path).map(|bytes| String::from_utf8_lossy(&bytes).into_owned())
-        });
-        let assembled = assembled.map_err(|errors| Failure::trace(errors.to_string()))?;
-        let Assembled { records, places, files, expectations, .. } = assembled;
+        let mut unread = false;
+        let include = &mut |path: &str| included(path).inspect_err(|_| unread = true);
+        let assembled = trace::assemble_with(&name, &text, include).map_err(|errors| {
+            let mut failure = Failure::trace(errors.to_string());
+            if unread {
+                failure.status = Status::File;
+            }
+            failure
+        })?;
+        let Assembled { records, places, files, expectations, warnings } = assembled;
+        warnings.iter().for_each(|warning| complain(&warning.to_string()));
         Ok(List { files, records, places, expectations })
     }
 
@@ -139,6 +145,16 @@ impl List {
             }
         }
     }
+}
+
+/// The text of a file that a trace includes.
+fn included(path: &str) -> io::Result<String> {
+    let source = Source::File(path.into());
+    let bytes = source.read().map_err(|failure| {
+        let own = format!("{}: ", source.name());
+        io::Error::other(failure.message.strip_prefix(&own).unwrap_or(&failure.message).to_string())
+    })?;
+    Ok(String::from_utf8_lossy(&bytes).into_owned())
 }
 
 /// A list that no reset divides into calls.

@@ -1,10 +1,12 @@
 //! A trace's lines turned into records.
 
-use super::errors::{Errors, TraceError, Warning, MOST_ERRORS};
+use super::errors::{Errors, TraceError, Warning, MOST_ERRORS, MOST_WARNINGS};
 use super::follow::{Follower, Ground};
 use super::line::{Fault, Line, Word};
 use super::numbers;
-use super::statement::{self, Words, STATEMENTS};
+use super::reader::{Constants, Reader};
+use super::statement::{self, Statement};
+use crate::record::Record;
 use std::io;
 use std::ops::Range;
 use std::path::Path;
@@ -59,7 +61,7 @@ pub struct Expectation {
     pub place: Place,
     /// The records of the statement that it belongs to: by index, at least one.
     pub records: Range<usize>,
-    /// Without blanks around it; not empty.
+    /// Without blanks around it.
     pub text: String,
 }
 
@@ -109,7 +111,15 @@ pub fn assemble_with(
     let mut ground = Ground::new();
     let follower = Follower::new(&mut ground);
     let assembled = Assembled { files: vec![name.to_string()], ..Assembled::default() };
-    let mut assembler = Assembler { follower, include, open: Vec::new(), includes: 0, assembled, errors: Vec::new() };
+    let mut assembler = Assembler {
+        follower,
+        include,
+        open: Vec::new(),
+        includes: 0,
+        constants: Constants::new(),
+        assembled,
+        errors: Vec::new(),
+    };
     assembler.file(0, text);
     match assembler.errors.is_empty() {
         true => Ok(assembler.assembled),
@@ -143,6 +153,7 @@ struct Assembler<'g, 'i> {
     open: Vec<Place>,
     /// How many were carried out.
     includes: usize,
+    constants: Constants,
     assembled: Assembled,
     errors: Vec<TraceError>,
 }
@@ -187,29 +198,43 @@ impl Assembler<'_, '_> {
 
     fn statement(&mut self, words: Vec<Word<'_>>, place: Place) -> Result<Above, Fault> {
         let from = self.assembled.places.len();
-        let mut words = Words::of(words);
-        let word = words.next(STATEMENTS)?;
-        if word.text.eq_ignore_ascii_case("include") {
-            let told = self.errors.len();
-            self.included(words, place)?;
-            if self.errors.len() != told {
-                return Ok(Above::Mistake);
-            }
-        } else {
-            for record in statement::records(word, words, self.follower.bases())? {
-                self.follower.note(&record);
-                self.assembled.records.extend(record.to_bytes());
-                self.assembled.places.push(place);
+        let mut reader = Reader::new(words, self.follower.bases(), &self.constants);
+        let statement = statement::statement(&mut reader)?;
+        for warning in std::mem::take(&mut reader.warnings) {
+            self.warn(place, warning);
+        }
+        match statement {
+            Statement::Records(records) => self.add(place, &records),
+            Statement::Set(name, value) => drop(self.constants.insert(name, value)),
+            Statement::Include(word, name) => {
+                let told = self.errors.len();
+                self.included(place, word, &name)?;
+                if self.errors.len() != told {
+                    return Ok(Above::Mistake);
+                }
             }
         }
         Ok(Above::Records(from..self.assembled.places.len()))
     }
 
-    /// `include`: the statements of another file.
-    fn included(&mut self, mut words: Words<'_>, place: Place) -> Result<(), Fault> {
-        let word = words.next("a file's name")?;
-        words.finish()?;
-        let path = self.beside(place, &file_name(word)?);
+    fn warn(&mut self, place: Place, Fault { column, message }: Fault) {
+        if self.assembled.warnings.len() < MOST_WARNINGS {
+            let file = self.name(place).to_string();
+            self.assembled.warnings.push(Warning { file, line: place.line, column: column as u32, message });
+        }
+    }
+
+    fn add(&mut self, place: Place, records: &[Record]) {
+        for record in records {
+            self.follower.note(record);
+            self.assembled.records.extend(record.to_bytes());
+            self.assembled.places.push(place);
+        }
+    }
+
+    /// The statements of another file, which the word names.
+    fn included(&mut self, place: Place, word: Word<'_>, name: &str) -> Result<(), Fault> {
+        let path = self.beside(place, name);
         self.open.push(place);
         let result = self.read(word, &path);
         self.open.pop();
@@ -263,20 +288,9 @@ impl Assembler<'_, '_> {
             Above::Records(_) => return Err(mark.fault("expected an access before '#>', found one without a record")),
             Above::Nothing => return Err(mark.fault("expected an access before '#>', found none above it")),
         };
-        if text.is_empty() {
-            return Err(mark.fault("expected how the access should end after '#>', found nothing"));
-        }
         self.assembled.expectations.push(Expectation { place, records, text: text.to_string() });
         Ok(())
     }
-}
-
-/// The name of a file, in quotes or not. It is shown in messages, so it has no control characters.
-fn file_name(word: Word<'_>) -> Result<String, Fault> {
-    const NAME: &str = "a file's name";
-    let bytes = if word.text.starts_with('"') { word.quoted(NAME)? } else { word.text.into() };
-    let name = String::from_utf8(bytes).ok().filter(|name| !name.is_empty() && !name.contains(char::is_control));
-    name.ok_or_else(|| word.expected(NAME))
 }
 
 #[cfg(test)]
@@ -301,18 +315,19 @@ config read dev0.VID # a guest looks  #>> b #> c
 # between
 #>e
 run 5 # no expectation > here
+run 6 #>>
 ";
-        let expected = [(2, 0..1, "a"), (3, 1..3, "b #> c"), (5, 1..3, "d"), (7, 1..3, "e")];
+        let expected = [(2, 0..1, "a"), (3, 1..3, "b #> c"), (5, 1..3, "d"), (7, 1..3, "e"), (9, 4..5, "")];
         assert_eq!(expectations(text), expected.map(|(line, records, text)| (line, records, text.to_string())));
     }
 
     #[test]
-    fn an_expectation_without_an_access_or_a_text_is_an_error() {
+    fn an_expectation_without_an_access_is_an_error() {
         for (text, line, column, part) in [
             ("#> a\nreset\n", 1, 1, "found none above it"),
             ("# only\n\n  #> a\n", 3, 3, "found none above it"),
-            ("reset\n #>\n", 2, 2, "expected how the access should end after '#>', found nothing"),
-            ("reset # x #>> \n", 1, 11, "found nothing"),
+            ("set KEY 5 #> a\n", 1, 11, "found one without a record"),
+            ("reset\nset KEY 5\n#> a\n", 3, 1, "found one without a record"),
         ] {
             let errors = assemble(text).expect_err(text);
             let error = &errors.list()[0];

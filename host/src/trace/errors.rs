@@ -6,6 +6,9 @@ use std::fmt;
 /// Errors told at once.
 pub(super) const MOST_ERRORS: usize = 20;
 
+/// Warnings kept.
+pub(super) const MOST_WARNINGS: usize = 20;
+
 /// A line that is no access.
 ///
 /// ```
@@ -80,6 +83,14 @@ impl fmt::Display for Errors {
 impl std::error::Error for Errors {}
 
 /// What is legal but looks like a slip.
+///
+/// ```
+/// let assembled = mitrophel::trace::assemble("read4 700000\n").expect("an address");
+/// assert_eq!(
+///     assembled.warnings[0].to_string(),
+///     "trace:1:7: warning: 700000 is decimal (AAE60h); if it is meant as hexadecimal write 700000h"
+/// );
+/// ```
 #[derive(Clone, Debug, PartialEq, Eq)]
 pub struct Warning {
     /// The file's name.

@@ -231,6 +231,32 @@ pub fn port(port: u32) -> String {
     }
 }
 
+/// The instructions of the ring parser, by their bits 28:23.
+const INSTRUCTIONS: [(&str, u32); 3] = [("NOOP", 0x00), ("USER_INTERRUPT", 0x02), ("FLUSH", 0x04)];
+
+/// The word of the ring parser's instruction with this name, in letters of either case, with Intel's `MI_`
+/// before it or not.
+///
+/// ```
+/// use mitrophel::trace::names;
+///
+/// assert_eq!(names::instruction_named("MI_USER_INTERRUPT"), Some(0x0100_0000));
+/// assert_eq!(names::instruction_named("flush"), Some(0x0200_0000));
+/// ```
+pub fn instruction_named(name: &str) -> Option<u32> {
+    let prefixed = name.get(..3).is_some_and(|start| start.eq_ignore_ascii_case("MI_"));
+    let name = if prefixed { &name[3..] } else { name };
+    INSTRUCTIONS.iter().find(|(own, _)| own.eq_ignore_ascii_case(name)).map(|(_, opcode)| opcode << 23)
+}
+
+/// Whether a trace knows this name: a register's, a port's, a range's or an instruction's.
+pub(super) fn is_known(name: &str) -> bool {
+    let other = ["WINDOW", "MMIO", "GTT", "DEV0", "DEV1"].iter().any(|own| own.eq_ignore_ascii_case(name));
+    let configuration = (0..DEVICES.len()).any(|device| config_named(device, name).is_some());
+    let named = mapped_named(name).is_some() || port_named(name).is_some() || instruction_named(name).is_some();
+    other || configuration || named
+}
+
 /// The value of CF8h that selects a configuration register of bus 0, function 0.
 ///
 /// ```

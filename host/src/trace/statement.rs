@@ -1,59 +1,54 @@
-//! One statement turned into records.
+//! One statement, told by its words.
 
 use super::line::{Fault, Word};
-use super::names::{self, Bases};
+use super::names;
 use super::numbers;
+use super::reader::Reader;
 use crate::record::{Record, RECORD_BYTES};
 
-/// The words of one statement, left to right.
-pub(super) struct Words<'a> {
-    words: std::vec::IntoIter<Word<'a>>,
-    /// The column past the last word.
-    end: usize,
+/// What a statement asks for.
+pub(super) enum Statement<'a> {
+    Records(Vec<Record>),
+    /// The statements of the file with this name, which the word has.
+    Include(Word<'a>, String),
+    /// A constant of this name, in lower case.
+    Set(String, u32),
 }
 
-impl<'a> Words<'a> {
-    pub fn of(words: Vec<Word<'a>>) -> Words<'a> {
-        let end = words.last().map_or(1, |word| word.column + word.text.chars().count());
-        Words { words: words.into_iter(), end }
-    }
+const STATEMENTS: &str = "an access (in, out, read, fetch, write, word, bytes, string, smm, master, config, entry, \
+                          entries, run, reset or raw), set or include";
+const MANAGEMENT: &str = "read, fetch, write, word, bytes or string";
+const MASTER: &str = "read, write, word, bytes or string";
 
-    pub fn next(&mut self, what: &str) -> Result<Word<'a>, Fault> {
-        let message = || format!("expected {what}, found the end of the line");
-        self.words.next().ok_or_else(|| Fault { column: self.end, message: message() })
-    }
-
-    fn number(&mut self, what: &str) -> Result<u32, Fault> {
-        self.next(what)?.number(what)
-    }
-
-    pub fn finish(mut self) -> Result<(), Fault> {
-        match self.words.next() {
-            None => Ok(()),
-            Some(word) => Err(word.expected("the end of the line")),
-        }
-    }
+/// The statement of these words.
+pub(super) fn statement<'a>(reader: &mut Reader<'a, '_>) -> Result<Statement<'a>, Fault> {
+    let word = reader.next(STATEMENTS)?;
+    let statement = match word.text.to_ascii_lowercase().as_str() {
+        "set" => set(reader)?,
+        "include" => include(reader)?,
+        _ => Statement::Records(records(word, reader)?),
+    };
+    reader.finish()?;
+    Ok(statement)
 }
-
-pub(super) const STATEMENTS: &str =
-    "an access (in, out, read, fetch, write, smm, master, config, entry, entries, run, reset or raw)";
 
 /// The records of a statement that starts with this word.
-pub(super) fn records(word: Word<'_>, mut words: Words<'_>, bases: Bases) -> Result<Vec<Record>, Fault> {
-    let records = match word.text.to_ascii_lowercase().as_str() {
-        "smm" => vec![processor(words.next("read, fetch or write")?, &mut words, bases, true)?],
-        "master" => vec![master(&mut words, bases)?],
-        "config" => config(&mut words)?,
-        "entry" => vec![entry(&mut words, bases)?],
-        "entries" => entries(&mut words, bases)?,
-        "run" => vec![Record::run(words.number("the run's budget")?)],
+fn records(word: Word<'_>, reader: &mut Reader<'_, '_>) -> Result<Vec<Record>, Fault> {
+    Ok(match word.text.to_ascii_lowercase().as_str() {
+        "smm" => {
+            let word = reader.next(MANAGEMENT)?;
+            processor(word, reader, true)?
+        }
+        "master" => master(reader)?,
+        "config" => config(reader)?,
+        "entry" => entry(reader)?,
+        "entries" => entries(reader)?,
+        "run" => vec![Record::run(reader.number("the run's budget")?)],
         "reset" => vec![Record::reset()],
-        "raw" => vec![raw(&mut words)?],
-        name if name.starts_with("in") || name.starts_with("out") => vec![io(word, &mut words)?],
-        _ => vec![processor(word, &mut words, bases, false)?],
-    };
-    words.finish()?;
-    Ok(records)
+        "raw" => vec![raw(reader)?],
+        name if name.starts_with("in") || name.starts_with("out") => vec![io(word, reader)?],
+        _ => processor(word, reader, false)?,
+    })
 }
 
 /// A word such as `read4`: its letters, in lower case, and its width.
@@ -68,220 +63,222 @@ fn mnemonic(word: Word<'_>, known: &[&'static str], what: &str) -> Result<(&'sta
     Ok((name, width))
 }
 
-fn io(word: Word<'_>, words: &mut Words<'_>) -> Result<Record, Fault> {
-    let (name, width) = mnemonic(word, &["in", "out"], STATEMENTS)?;
-    let width = width.ok_or_else(|| no_width(word, name))?;
-    let port = port(words.next("a port")?)?;
-    Ok(match name {
-        "in" => Record::io_read(port, width),
-        _ => Record::io_write(port, width, words.number("the data")?),
-    })
-}
-
-/// A port: a number, `CONFIG_ADDRESS` or `CONFIG_DATA`, perhaps with a number added.
-fn port(word: Word<'_>) -> Result<u32, Fault> {
-    const PORT: &str = "a port: a number, CONFIG_ADDRESS or CONFIG_DATA";
-    let (name, offset) = sum(word)?;
-    let base = names::port_named(name).map_or_else(|| word.number(PORT), Ok)?;
-    let port = base.checked_add(offset).filter(|&port| port <= 0xFFFF);
-    port.ok_or_else(|| word.expected("a port of at most FFFFh"))
-}
-
-/// `NAME+NUMBER`: the name and the number, 0 where there is none.
-fn sum(word: Word<'_>) -> Result<(&str, u32), Fault> {
-    let Some((name, offset)) = word.text.split_once('+') else {
-        return Ok((word.text, 0));
-    };
-    let after = Word { text: offset, column: word.column + name.chars().count() + 1 };
-    Ok((name, after.number("what '+' adds")?))
-}
-
 fn no_width(word: Word<'_>, name: &str) -> Fault {
     word.expected(&format!("{name} with its width: {name}1, {name}2 or {name}4"))
 }
 
-fn processor(word: Word<'_>, words: &mut Words<'_>, bases: Bases, management: bool) -> Result<Record, Fault> {
-    let what = if management { "read, fetch or write" } else { STATEMENTS };
-    let (name, width) = mnemonic(word, &["read", "fetch", "write"], what)?;
-    let place = place(words.next(PLACE)?, bases)?;
-    let width = width.or(place.bytes).ok_or_else(|| no_width(word, name))?;
+const DATA: &str = "the data";
+
+fn io(word: Word<'_>, reader: &mut Reader<'_, '_>) -> Result<Record, Fault> {
+    let (name, width) = mnemonic(word, &["in", "out"], STATEMENTS)?;
+    let width = width.ok_or_else(|| no_width(word, name))?;
+    let port = reader.port()?;
     Ok(match name {
+        "in" => Record::io_read(port, width),
+        _ => Record::io_write(port, width, reader.data(DATA)?),
+    })
+}
+
+fn processor(word: Word<'_>, reader: &mut Reader<'_, '_>, management: bool) -> Result<Vec<Record>, Fault> {
+    if let Some(filling) = Filling::named(word.text) {
+        return filling.records(reader, |address, width, data| Record::write(address, width, data, management));
+    }
+    let what = if management { MANAGEMENT } else { STATEMENTS };
+    let (name, width) = mnemonic(word, &["read", "fetch", "write"], what)?;
+    let place = reader.place()?;
+    let width = width.or(place.bytes).ok_or_else(|| no_width(word, name))?;
+    Ok(vec![match name {
         "read" => Record::read(place.address, width, management),
         "fetch" => Record::code_read(place.address, width, management),
-        _ => Record::write(place.address, width, words.number("the data")?, management),
-    })
+        _ => Record::write(place.address, width, reader.data(DATA)?, management),
+    }])
 }
 
-fn master(words: &mut Words<'_>, bases: Bases) -> Result<Record, Fault> {
-    let word = words.next("read or write")?;
-    let (name, width) = mnemonic(word, &["read", "write"], "read or write")?;
-    let place = place(words.next(PLACE)?, bases)?;
+fn master(reader: &mut Reader<'_, '_>) -> Result<Vec<Record>, Fault> {
+    let word = reader.next(MASTER)?;
+    if let Some(filling) = Filling::named(word.text) {
+        return filling.records(reader, Record::master_write);
+    }
+    let (name, width) = mnemonic(word, &["read", "write"], MASTER)?;
+    let place = reader.place()?;
     let width = width.or(place.bytes).ok_or_else(|| no_width(word, name))?;
-    Ok(match name {
+    Ok(vec![match name {
         "read" => Record::master_read(place.address, width),
-        _ => Record::master_write(place.address, width, words.number("the data")?),
-    })
+        _ => Record::master_write(place.address, width, reader.data(DATA)?),
+    }])
 }
 
-/// An address, and the size of the register that it names.
-struct Place {
-    address: u32,
-    bytes: Option<u8>,
+/// The statements that fill memory.
+#[derive(Clone, Copy)]
+enum Filling {
+    Word,
+    Bytes,
+    String,
 }
 
-const PLACE: &str = "an address: a number, WINDOW+.., MMIO+.., GTT[n] or a register's name such as FENCE0";
+impl Filling {
+    fn named(name: &str) -> Option<Filling> {
+        let all = [("word", Filling::Word), ("bytes", Filling::Bytes), ("string", Filling::String)];
+        all.into_iter().find(|(own, _)| own.eq_ignore_ascii_case(name)).map(|(_, filling)| filling)
+    }
 
-/// An address: a number, the name of a memory-mapped register, `GTT[n]`, `MMIO+..` or `WINDOW+..`.
-fn place(word: Word<'_>, bases: Bases) -> Result<Place, Fault> {
-    if word.text.starts_with(|c: char| c.is_ascii_digit()) || numbers::number(word.text).is_ok() {
-        return Ok(Place { address: word.number("an address")?, bytes: None });
+    fn records(
+        self,
+        reader: &mut Reader<'_, '_>,
+        write: impl Fn(u32, u8, u32) -> Record,
+    ) -> Result<Vec<Record>, Fault> {
+        let place = reader.place()?;
+        let mut bytes = self.bytes(reader)?;
+        while !reader.is_empty() && !matches!(self, Filling::String) {
+            bytes.extend(self.bytes(reader)?);
+        }
+        if bytes.len() as u64 > (1 << 32) - u64::from(place.address) {
+            let count = numbers::counted(bytes.len() as u64, "byte");
+            return Err(place.word.expected(&format!("a place with {count} up to FFFFFFFFh")));
+        }
+        Ok(writes(place.address, &bytes, write))
     }
-    let (name, offset) = sum(word)?;
-    if name.eq_ignore_ascii_case("WINDOW") {
-        return window_place(word, offset, bases);
+
+    /// What the next word stands for.
+    fn bytes(self, reader: &mut Reader<'_, '_>) -> Result<Vec<u8>, Fault> {
+        const TEXT: &str = "a text in quotes, of at least one byte";
+        Ok(match self {
+            Filling::Word => reader.data("a value")?.to_le_bytes().to_vec(),
+            Filling::Bytes => vec![reader.byte()?],
+            Filling::String => {
+                let word = reader.next(TEXT)?;
+                Some(word.quoted(TEXT)?).filter(|text| !text.is_empty()).ok_or_else(|| word.expected(TEXT))?
+            }
+        })
     }
-    let (at, bytes) = if name.eq_ignore_ascii_case("MMIO") {
-        (0, None)
-    } else if let Some(entry) = table_entry(word, name)? {
-        (names::entry_offset(entry), Some(4))
-    } else {
-        let register = names::mapped_named(name).ok_or_else(|| word.expected(PLACE))?;
-        (register.at, Some(register.bytes))
-    };
-    let at = at.checked_add(offset).filter(|&at| at < names::REGISTERS_BYTES);
-    let at = at.ok_or_else(|| word.expected("an offset below 80000h, the registers' 512 KiB"))?;
-    if bases.registers == 0 {
-        let message = format!(
-            "{name} stands at MMADR, which is 0 here: expected a write of dev1.MMADR before this line \
-             (device 1 answers only while GMS is not 00)"
-        );
-        return Err(Fault { column: word.column, message });
-    }
-    let whole = !word.text.contains('+');
-    Ok(Place { address: bases.registers + at, bytes: bytes.filter(|_| whole) })
 }
 
-fn window_place(word: Word<'_>, offset: u32, bases: Bases) -> Result<Place, Fault> {
-    if bases.window == 0 {
-        let message = "WINDOW stands at GMADR, which is 0 here: expected a write of dev1.GMADR before this line \
-                       (device 1 answers only while GMS is not 00)";
-        return Err(Fault { column: word.column, message: message.to_string() });
+/// As few writes as possible that put these bytes there, each inside one aligned word.
+fn writes(mut address: u32, mut bytes: &[u8], write: impl Fn(u32, u8, u32) -> Record) -> Vec<Record> {
+    let mut records = Vec::new();
+    while !bytes.is_empty() {
+        let width = match bytes.len().min(4 - address as usize % 4) {
+            4 => 4,
+            2 | 3 => 2,
+            _ => 1,
+        };
+        let (now, later) = bytes.split_at(width);
+        let mut data = [0; 4];
+        data[..width].copy_from_slice(now);
+        records.push(write(address, width as u8, u32::from_le_bytes(data)));
+        address = address.wrapping_add(width as u32);
+        bytes = later;
     }
-    if offset >= bases.window_bytes {
-        return Err(word.expected(&format!("an offset below {:X}h, the window's size", bases.window_bytes)));
-    }
-    Ok(Place { address: bases.window + offset, bytes: None })
-}
-
-/// The number in `GTT[n]`, if the word is one.
-fn table_entry(word: Word<'_>, name: &str) -> Result<Option<u32>, Fault> {
-    let Some(inside) = name.get(..4).filter(|start| start.eq_ignore_ascii_case("GTT[")).and_then(|_| name.get(4..))
-    else {
-        return Ok(None);
-    };
-    let number = inside.strip_suffix(']').ok_or_else(|| word.expected("GTT[n] with its closing ']'"))?;
-    entry_number(Word { text: number, column: word.column + 4 }).map(Some)
-}
-
-fn entry_number(word: Word<'_>) -> Result<u32, Fault> {
-    let entry = word.number("an entry's number")?;
-    if entry < names::ENTRY_COUNT {
-        Ok(entry)
-    } else {
-        Err(word.expected("an entry from 0 to 16383"))
-    }
+    records
 }
 
 /// A configuration access: CF8h, then CFCh and the register's low two bits.
-fn config(words: &mut Words<'_>) -> Result<Vec<Record>, Fault> {
-    let word = words.next("read or write")?;
+fn config(reader: &mut Reader<'_, '_>) -> Result<Vec<Record>, Fault> {
+    let word = reader.next("read or write")?;
     let (name, width) = mnemonic(word, &["read", "write"], "read or write")?;
-    let (device, at, bytes) = config_place(words.next(CONFIG)?)?;
-    let width = width.or(bytes).ok_or_else(|| no_width(word, name))?;
-    let port = names::CONFIG_DATA + at % 4;
+    let register = reader.config_register()?;
+    let width = width.or(register.bytes).ok_or_else(|| no_width(word, name))?;
+    let port = names::CONFIG_DATA + register.at % 4;
     let access = match name {
         "read" => Record::io_read(port, width),
-        _ => Record::io_write(port, width, words.number("the data")?),
+        _ => Record::io_write(port, width, reader.data(DATA)?),
     };
-    Ok(vec![Record::io_write(names::CONFIG_ADDRESS, 4, names::selection(device, at)), access])
-}
-
-const CONFIG: &str = "a configuration register such as dev0.SMRAM, dev1.GMADR or dev0.70h";
-
-/// The device, the register and, for a name, the register's size.
-fn config_place(word: Word<'_>) -> Result<(usize, u32, Option<u8>), Fault> {
-    let (device, name) = word.text.split_once('.').ok_or_else(|| word.expected(CONFIG))?;
-    let device = ["dev0", "dev1"].iter().position(|own| own.eq_ignore_ascii_case(device));
-    let device = device.ok_or_else(|| word.expected(CONFIG))?;
-    if let Some(register) = names::config_named(device, name) {
-        return Ok((device, register.at, Some(register.bytes)));
-    }
-    if names::config_named(1 - device, name).is_some() {
-        return Err(word.expected(&format!("a register of device {device} ({name} is one of device {})", 1 - device)));
-    }
-    let after = Word { text: name, column: word.column + 5 };
-    let at = numbers::number(name).map_err(|_| word.expected(CONFIG))?;
-    if at <= 0xFF {
-        Ok((device, at, None))
-    } else {
-        Err(after.expected("a register from 00h to FFh"))
-    }
-}
-
-/// A valid table entry of main memory.
-fn entry(words: &mut Words<'_>, bases: Bases) -> Result<Record, Fault> {
-    let word = words.next("an entry's number")?;
-    let entry = entry_number(word)?;
-    let page = page(words)?.0;
-    entry_write(word, entry, page, bases)
-}
-
-/// Valid table entries, one after the other, that name pages one after the other.
-fn entries(words: &mut Words<'_>, bases: Bases) -> Result<Vec<Record>, Fault> {
-    const RANGE: &str = "the first and the last entry, such as 0..15";
-    let word = words.next(RANGE)?;
-    let (first, last) = word.text.split_once("..").ok_or_else(|| word.expected(RANGE))?;
-    let after = word.column + first.chars().count() + 2;
-    let first = entry_number(Word { text: first, column: word.column })?;
-    let last = entry_number(Word { text: last, column: after })?;
-    if last < first {
-        return Err(word.expected("a last entry that is not below the first"));
-    }
-    let (start, place) = page(words)?;
-    let end = start + 4096 * (last - first);
-    if end > LAST_PAGE {
-        return Err(place.expected(&format!("pages up to 3FFFF000h (the last would be {end:X}h)")));
-    }
-    (first..=last).map(|entry| entry_write(word, entry, start + 4096 * (entry - first), bases)).collect()
+    let selection = names::selection(register.device, register.at);
+    Ok(vec![Record::io_write(names::CONFIG_ADDRESS, 4, selection), access])
 }
 
 /// "page 29:12"
 const LAST_PAGE: u32 = 0x3FFF_F000;
 
-fn page<'a>(words: &mut Words<'a>) -> Result<(u32, Word<'a>), Fault> {
-    let word = words.next("a page")?;
-    let page = word.number("a page")?;
-    if page > LAST_PAGE || !page.is_multiple_of(4096) {
-        return Err(word.expected("a page, a multiple of 1000h up to 3FFFF000h"));
-    }
-    Ok((page, word))
+/// A valid table entry of main memory.
+fn entry(reader: &mut Reader<'_, '_>) -> Result<Vec<Record>, Fault> {
+    let word = reader.next("an entry's number")?;
+    let entry = reader.entry_number(word)?;
+    let (page, _) = reader.page(LAST_PAGE)?;
+    Ok(vec![Record::write(reader.entry_address(word, entry)?, 4, page | 1, false)])
 }
 
-fn entry_write(word: Word<'_>, entry: u32, page: u32, bases: Bases) -> Result<Record, Fault> {
-    let name = format!("GTT[{entry}]");
-    let place = place(Word { text: &name, column: word.column }, bases)?;
-    Ok(Record::write(place.address, 4, page | 1, false))
+/// Valid table entries, one after the other, that name pages one after the other.
+fn entries(reader: &mut Reader<'_, '_>) -> Result<Vec<Record>, Fault> {
+    const RANGE: &str = "the first and the last entry, such as 0..15";
+    let word = reader.next(RANGE)?;
+    let (first, _) = word.text.split_once("..").ok_or_else(|| word.expected(RANGE))?;
+    let last = reader.entry_number(word.after(first.len() + 2))?;
+    let first = reader.entry_number(Word { text: first, ..word })?;
+    if last < first {
+        return Err(word.expected("a last entry that is not below the first"));
+    }
+    let (start, place) = reader.page(LAST_PAGE)?;
+    let end = start + 4096 * (last - first);
+    if end > LAST_PAGE {
+        return Err(place.expected(&format!("pages up to 3FFFF000h (the last would be {end:X}h)")));
+    }
+    let address = reader.entry_address(word, first)?;
+    let write = |n| Record::write(address + 4 * n, 4, (start + 4096 * n) | 1, false);
+    Ok((0..=last - first).map(write).collect())
 }
 
 /// Sixteen bytes in hexadecimal.
-fn raw(words: &mut Words<'_>) -> Result<Record, Fault> {
+fn raw(reader: &mut Reader<'_, '_>) -> Result<Record, Fault> {
     let mut bytes = [0; RECORD_BYTES];
     for (at, byte) in bytes.iter_mut().enumerate() {
         let what = format!("byte {at} of 16, two hexadecimal digits");
-        let word = words.next(&what)?;
+        let word = reader.next(&what)?;
         *byte = numbers::hexadecimal_byte(word.text).ok_or_else(|| word.expected(&what))?;
     }
     Ok(Record::from_bytes(&bytes))
+}
+
+/// `include FILE`: the name is in quotes or not. It is shown in messages, so it has no control characters.
+fn include<'a>(reader: &mut Reader<'a, '_>) -> Result<Statement<'a>, Fault> {
+    const NAME: &str = "a file's name";
+    let word = reader.next(NAME)?;
+    let bytes = if word.text.starts_with('"') { word.quoted(NAME)? } else { word.text.into() };
+    let name = String::from_utf8(bytes).ok().filter(|name| !name.is_empty() && !name.contains(char::is_control));
+    Ok(Statement::Include(word, name.ok_or_else(|| word.expected(NAME))?))
+}
+
+/// `set NAME VALUE`
+fn set<'a>(reader: &mut Reader<'a, '_>) -> Result<Statement<'a>, Fault> {
+    let word = reader.next("a constant's name")?;
+    let name = constant_name(word)?;
+    let value = reader.data("the constant's value")?;
+    match reader.set_to(name) {
+        Some(old) if old != value => {
+            Err(word
+                .fault(format!("expected a name that is not set to another value, found '{name}', which is {old:X}h")))
+        }
+        _ => Ok(Statement::Set(name.to_ascii_lowercase(), value)),
+    }
+}
+
+/// A name that means nothing yet.
+fn constant_name(word: Word<'_>) -> Result<&str, Fault> {
+    let name = word.text;
+    let formed = name.len() >= 2
+        && name.starts_with(|c: char| c.is_ascii_alphabetic())
+        && name.bytes().all(|c| c.is_ascii_alphanumeric() || c == b'_');
+    if !formed {
+        return Err(word.expected("a name of two or more letters, digits and underscores that starts with a letter"));
+    }
+    let number = numbers::number(name).is_ok() || name.bytes().all(|digit| digit.is_ascii_hexdigit());
+    if number {
+        return Err(word.expected("a name that cannot be taken for a number"));
+    }
+    if is_statement(name) || names::is_known(name) {
+        return Err(word.expected("a name that does not stand for anything else"));
+    }
+    Ok(name)
+}
+
+/// Whether a statement may start with this word, or with it and a width.
+fn is_statement(name: &str) -> bool {
+    const WORDS: [&str; 18] = [
+        "in", "out", "read", "fetch", "write", "word", "bytes", "string", "smm", "master", "config", "entry",
+        "entries", "run", "reset", "raw", "set", "include",
+    ];
+    let letters = name.trim_end_matches(|c: char| c.is_ascii_digit());
+    WORDS.iter().any(|word| word.eq_ignore_ascii_case(letters))
 }
 
 #[cfg(test)]
@@ -342,14 +339,114 @@ mod tests {
         assert_eq!(line("entry 10 A0000h"), entries[..1]);
     }
 
+    /// Bytes go into as few records as possible, each inside one aligned word.
+    #[test]
+    fn memory_is_filled_word_by_word() {
+        let write = |address, width, data| Record::write(address, width, data, false);
+        let master = Record::master_write;
+        let cases: [(&str, &[Record]); 13] = [
+            ("word 1000h 1 FFFFFFFFh", &[write(0x1000, 4, 1), write(0x1004, 4, u32::MAX)]),
+            (
+                "word 1002h 44332211h 88776655h",
+                &[write(0x1002, 2, 0x2211), write(0x1004, 4, 0x6655_4433), write(0x1008, 2, 0x8877)],
+            ),
+            ("smm word A0000h 5", &[Record::write(0xA_0000, 4, 5, true)]),
+            ("master word 1000h 5", &[master(0x1000, 4, 5)]),
+            ("word FENCE0 21h 80021h", &[write(0xF000_2000, 4, 0x21), write(0xF000_2004, 4, 0x8_0021)]),
+            ("bytes 1000h 10", &[write(0x1000, 1, 0x10)]),
+            ("bytes 1001h 01 0x02 3", &[write(0x1001, 2, 0x0201), write(0x1003, 1, 3)]),
+            ("bytes 1000h ff 255 0FFh", &[write(0x1000, 2, 0xFFFF), write(0x1002, 1, 0xFF)]),
+            ("bytes 1001h 01 02", &[write(0x1001, 2, 0x0201)]),
+            (
+                "BYTES 1003h 01 02 03 04 05 06",
+                &[write(0x1003, 1, 1), write(0x1004, 4, 0x0504_0302), write(0x1008, 1, 6)],
+            ),
+            ("string 1000h \"A # b\" # a comment", &[write(0x1000, 4, 0x2023_2041), write(0x1004, 1, 0x62)]),
+            (
+                "smm string 1000h \"\\n\\t\\\\\\\"\\0\\xfe\u{e9}\"",
+                &[Record::write(0x1000, 4, 0x225C_090A, true), Record::write(0x1004, 4, 0xA9C3_FE00, true)],
+            ),
+            ("string FFFFFFFEh \"ab\"", &[write(0xFFFF_FFFE, 2, 0x6261)]),
+        ];
+        for (text, records) in cases {
+            assert_eq!(line(text), records, "{text}");
+        }
+    }
+
+    #[test]
+    fn instructions_of_the_ring_parser_are_data() {
+        let words = line("word 100000h noop MI_USER_INTERRUPT Flush mi_noop user_interrupt 7");
+        let data: Vec<u32> = words.iter().map(|record| record.data).collect();
+        assert_eq!(data, [0, 0x0100_0000, 0x0200_0000, 0, 0x0100_0000, 7]);
+        assert_eq!(line("out4 CONFIG_DATA flush"), [Record::io_write(0xCFC, 4, 0x0200_0000)]);
+    }
+
+    #[test]
+    fn constants_stand_for_numbers_of_every_sort() {
+        let set = "set KEY A0000h\nset five 5\nset Ring_2 user_interrupt\nset KEY A0000h\nset AFTER key+5\n";
+        for (text, same) in [
+            ("smm write4 key 12345678h", "smm write4 A0000h 12345678h"),
+            ("read1 KEY+3", "read1 A0003h"),
+            ("read1 Key+FIVE", "read1 A0005h"),
+            ("read4 WINDOW+KEY", "read4 WINDOW+A0000h"),
+            ("read1 GTT[FIVE]+2", "read1 GTT[5]+2"),
+            ("in4 FIVE", "in4 5"),
+            ("in1 CONFIG_DATA+FIVE", "in1 D01h"),
+            ("out4 CF8h FIVE+1", "out4 CF8h 6"),
+            ("write4 1000h ring_2", "write4 1000h 01000000h"),
+            ("config read1 dev0.FIVE", "config read1 dev0.05h"),
+            ("config write dev0.SMRAM five+1", "config write dev0.SMRAM 6"),
+            ("entry FIVE KEY", "entry 5 A0000h"),
+            ("entries FIVE..FIVE+2 KEY+1000h", "entries 5..7 A1000h"),
+            ("run AFTER", "run 655365"),
+            ("bytes KEY FIVE 06", "bytes A0000h 05 06"),
+        ] {
+            assert_eq!(line(&format!("{set}{text}")), line(same), "{text}");
+        }
+    }
+
+    /// As setpci reads them.
+    #[test]
+    fn configuration_registers_are_hexadecimal() {
+        for text in ["dev0.70", "dev0.70h", "dev0.0x70", "DEV0.70H"] {
+            assert_eq!(line(&format!("config read1 {text}")), line("config read dev0.SMRAM"), "{text}");
+        }
+        assert_eq!(line("config read2 dev1.de"), line("config read dev1.PM_CAP"));
+    }
+
+    #[test]
+    fn decimal_numbers_where_hexadecimal_ones_are_usual_are_warned_of() {
+        let warned = |text: &str| -> Vec<(u32, String)> {
+            let assembled = assemble(&format!("{SETUP}{text}\n")).unwrap_or_else(|errors| panic!("{errors}"));
+            assembled.warnings.into_iter().map(|warning| (warning.column, warning.message)).collect()
+        };
+        let message = "700000 is decimal (AAE60h); if it is meant as hexadecimal write 700000h".to_string();
+        assert_eq!(warned("read4 700000"), [(7, message)]);
+        for (text, column) in [
+            ("smm write4 00010 5", 12),
+            ("master read4 4096", 14),
+            ("in4 3320", 5),
+            ("entry 10 4096", 10),
+            ("entries 10..12 4096", 16),
+            ("read4 WINDOW+4096", 14),
+            ("word 4096 5", 6),
+        ] {
+            assert_eq!(warned(text).iter().map(|(column, _)| *column).collect::<Vec<_>>(), [column], "{text}");
+        }
+        for text in ["read4 9", "read4 1000h", "write4 0 4096", "run 4096", "entry 4096 0", "set TEN 10", "read10 0"] {
+            assert_eq!(warned(text), [], "{text}");
+        }
+        assert_eq!(warned(&"read4 1000\n".repeat(30)).len(), 20);
+    }
+
     #[test]
     fn every_mistake_is_told_with_its_column() {
         for (text, column, part) in [
             ("peek 5", 1, "expected an access (in, out, read,"),
             ("  peek 5", 3, "found 'peek'"),
             ("invalid", 1, "expected an access"),
-            ("smm", 4, "expected read, fetch or write, found the end of the line"),
-            ("smm in4 5", 5, "expected read, fetch or write, found 'in4'"),
+            ("smm", 4, "expected read, fetch, write, word, bytes or string, found the end of the line"),
+            ("smm in4 5", 5, "expected read, fetch, write, word, bytes or string, found 'in4'"),
             ("in CFCh", 1, "expected in with its width: in1, in2 or in4, found 'in'"),
             ("in4", 4, "expected a port, found the end of the line"),
             ("in4 FOO", 5, "expected a port: a number, CONFIG_ADDRESS or CONFIG_DATA"),
@@ -370,7 +467,7 @@ mod tests {
             ("read4 MMIO+80000h", 7, "expected an offset below 80000h"),
             ("read WINDOW+4", 1, "expected read with its width"),
             ("read FENCE0+4", 1, "expected read with its width"),
-            ("master fetch4 5", 8, "expected read or write, found 'fetch4'"),
+            ("master fetch4 5", 8, "expected read, write, word, bytes or string, found 'fetch4'"),
             ("config poke dev0.SMRAM", 8, "expected read or write, found 'poke'"),
             ("config read SMRAM", 13, "expected a configuration register such as dev0.SMRAM"),
             ("config read dev2.SMRAM", 13, "expected a configuration register such as dev0.SMRAM"),
@@ -391,6 +488,38 @@ mod tests {
             ("raw 02 04", 10, "expected byte 2 of 16, two hexadecimal digits, found the end of the line"),
             ("raw 02 4", 8, "expected byte 1 of 16"),
             ("raw +2", 5, "expected byte 0 of 16"),
+            ("word 1000h", 11, "expected a value, found the end of the line"),
+            ("word 1000h 1 x", 14, "expected a value, a number such as"),
+            ("bytes 1000h 100h", 13, "expected a byte, two hexadecimal digits or a number to 255, found '100h'"),
+            ("bytes 1000h", 12, "expected a byte, two hexadecimal digits or a number to 255, found the end"),
+            ("string 1000h", 13, "expected a text in quotes, of at least one byte, found the end of the line"),
+            ("string 1000h abc", 14, "expected a text in quotes"),
+            ("string 1000h \"\"", 14, "expected a text in quotes, of at least one byte"),
+            ("string 1000h \"abc", 14, "expected a closing '\"', found '\"abc'"),
+            ("string 1000h \"abc\\\"", 14, "expected a closing '\"'"),
+            ("string 1000h \"a\\q\"", 16, "expected one of \\n, \\t, \\\\, \\\", \\0 and \\xHH, found '\\q'"),
+            ("string 1000h \"\u{e9}\\x+1\"", 16, "expected one of"),
+            ("string 1000h \"a\" \"b\"", 18, "expected the end of the line"),
+            ("string 1000h \"a\"b", 17, "expected the end of the line, found 'b'"),
+            ("word FFFFFFFEh 5", 6, "expected a place with 4 bytes up to FFFFFFFFh"),
+            ("master set", 8, "expected read, write, word, bytes or string"),
+            ("set", 4, "expected a constant's name"),
+            ("set KEY", 8, "expected the constant's value"),
+            ("set K 5", 5, "expected a name of two or more letters, digits and underscores"),
+            ("set 2K 5", 5, "that starts with a letter"),
+            ("set K-1 5", 5, "expected a name of two or more"),
+            ("set BEh 5", 5, "expected a name that cannot be taken for a number, found 'BEh'"),
+            ("set BEEF 5", 5, "expected a name that cannot be taken for a number"),
+            ("set fence0 5", 5, "expected a name that does not stand for anything else, found 'fence0'"),
+            ("set SMRAM 5", 5, "does not stand for anything else"),
+            ("set window 5", 5, "does not stand for anything else"),
+            ("set read4 5", 5, "does not stand for anything else"),
+            ("set mi_flush 5", 5, "does not stand for anything else"),
+            ("set CONFIG_DATA 5", 5, "does not stand for anything else"),
+            ("set KEY 5 6", 11, "expected the end of the line"),
+            ("config read1 dev0.100", 19, "expected a register from 00h to FFh, found '100'"),
+            ("config read1 dev0.", 14, "expected a configuration register"),
+            ("read4 GTT[5]x", 7, "expected an address"),
             ("r\u{e9}ad4 5", 1, "found 'r\u{e9}ad4'"),
             ("read4 \u{e9}\u{e9}+5", 7, "expected an address"),
             ("read4 GT\u{e9}[", 7, "expected an address"),
@@ -399,6 +528,11 @@ mod tests {
             assert_eq!((line, found), (4, column), "{text}: {message}");
             assert!(message.contains(part), "{text}: {message}");
         }
+        let again = assemble("set KEY 5\nset key 6\n").expect_err("two values").to_string();
+        assert!(again.starts_with("trace:2:5: expected a name that is not set to another value"), "{again}");
+        assert!(again.contains("found 'key', which is 5h"), "{again}");
+        let large = assemble("set KEY FFFFFFFFh\nread4 KEY+1\n").expect_err("33 bits").to_string();
+        assert!(large.starts_with("trace:2:7: expected a sum of at most 32 bits"), "{large}");
     }
 
     #[test]
@@ -445,11 +579,11 @@ mod tests {
     fn damaged_traces_are_errors_or_good() {
         let good: Vec<char> = format!(
             "{SETUP}read4 WINDOW+4\nsmm write GTT[10] A0001h\nentries 0..3 100000h\nraw 02 04 00 00 F8 0C 00 00 00 \
-             00 00 80 00 00 00 00\nin1 CONFIG_DATA+2\nrun 5\n"
+             00 00 80 00 00 00 00\nin1 CONFIG_DATA+2\nrun 5\nset KEY 5\nread1 KEY+5\nstring 5 \"a\\x41\"\nbytes 0 41\n"
         )
         .chars()
         .collect();
-        let odd: Vec<char> = "#+.[]h0xFG \t\n\u{e9}\u{0}\u{1b}-5".chars().collect();
+        let odd: Vec<char> = "#>+.[]h0xFG \t\n\"\\\u{e9}\u{0}\u{1b}-5".chars().collect();
         let mut seed = 1_u64;
         let mut below = |bound: usize| {
             seed = seed.wrapping_mul(6_364_136_223_846_793_005).wrapping_add(1_442_695_040_888_963_407);
