@@ -44,4 +44,4 @@ pub mod words;
 
 pub use assemble::{assemble, assemble_with, Assembled, Expectation, Place};
 pub use errors::{Errors, TraceError, Warning};
-pub use listing::{statement, Lister};
+pub use listing::{statement, Lister, REDACTED};

@@ -379,7 +379,7 @@ fn any_bytes_are_a_list() {
     };
     for round in 0..20 {
         let bytes: Vec<u8> = (0..16 * 100).map(|at| if at % 16 == 0 { byte() % 11 } else { byte() & round }).collect();
-        let listing = run_with(&["disasm", "-"], &bytes);
+        let listing = run_with(&["disasm", "--show-protected", "-"], &bytes);
         assert_eq!(listing.status, DONE, "{}", listing.errors);
         assert!(run_with(&["asm", "-"], &listing.out).out == bytes);
         let replay = run_with(&["replay", "--binary", "-"], &bytes);

@@ -117,7 +117,7 @@ fn every_trace_goes_to_records_and_back_and_gives_the_same_bytes() {
     for trace in traces() {
         let records = run(&["asm", &word(&trace)]).out;
         for switches in [&[][..], &["--no-macros"], &["--no-comments"]] {
-            let listing = run_with(&[&["disasm"], switches, &["-"]].concat(), &records);
+            let listing = run_with(&[&["disasm", "--show-protected"], switches, &["-"]].concat(), &records);
             assert_eq!((listing.status, listing.errors.as_str()), (DONE, ""));
             assert!(run_with(&["asm", "-"], &listing.out).out == records, "{}", trace.display());
         }

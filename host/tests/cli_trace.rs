@@ -253,3 +253,59 @@ fn a_decimal_address_is_warned_of_and_taken() {
     assert_eq!(found.errors.lines().next(), Some(warning));
     assert_eq!(found.errors.lines().count(), 20);
 }
+
+/// Every protected place in turn, and beside it one that is not.
+const KEYS: &str = "\
+config write dev0.SMRAM 4Ch
+smm write4 A0000h 0BADCAFEh
+smm write2 BFFFEh CAFEh
+smm write4 9FFFCh 00000001h
+config write dev0.SMRAM 20h
+smm write1 FEEA0000h FEh
+smm write4 1FFFFFFCh 0BADCAFEh
+smm write4 76FFFCh 00000002h
+config write dev0.SMRAM BEh
+smm write4 700000h 0BADCAFEh
+write4 700000h 00000003h
+smm read4 700000h
+";
+
+#[test]
+fn a_listing_leaves_out_what_management_mode_writes_into_protected_memory() {
+    let records = run_with(&["asm", "-"], KEYS.as_bytes()).out;
+    let hidden = run_with(&["disasm", "--no-comments", "-"], &records);
+    assert_eq!((hidden.status, hidden.errors.as_str()), (DONE, ""));
+    let redacted = ["0BADCAFEh", "CAFEh", "FEh"]
+        .iter()
+        .fold(KEYS.to_string(), |text, value| text.replace(&format!(" {value}\n"), " \u{B7}\u{B7}\n"));
+    assert_eq!(redacted.matches("\u{B7}\u{B7}").count(), 5);
+    assert_eq!(hidden.text, redacted);
+
+    let again = run_with(&["asm", "-"], &hidden.out);
+    assert_eq!(again.status, INPUT);
+    let first = "standard input:2:19: a redacted value: list the records with --show-protected\n";
+    assert!(again.errors.starts_with(first), "{}", again.errors);
+
+    let shown = run_with(&["disasm", "--no-comments", "--show-protected", "-"], &records);
+    assert_eq!(shown.text, KEYS);
+    assert!(run_with(&["asm", "-"], &shown.out).out == records);
+}
+
+/// Comments and macros do not tell what is left out either.
+#[test]
+fn a_listing_that_leaves_nothing_out_gives_the_same_bytes_back() {
+    let trace = format!("{}entries 0..3 100000h\nsmm write FENCE0 21h\nsmm write4 700000h 5\n", registers());
+    let records = run_with(&["asm", "-"], trace.as_bytes()).out;
+    let listing = run_with(&["disasm", "-"], &records);
+    assert!(run_with(&["asm", "-"], &listing.out).out == records);
+
+    // The registers stand where a TSEG may be.
+    let trace = "config write dev0.SMRAM 70h\nconfig write dev1.MMADR 00780000h\nsmm write4 GTT[5] 0BADC001h\n\
+                 smm write4 FENCE0 0BADC001h\n";
+    let listing = run_with(&["disasm", "-"], &run_with(&["asm", "-"], trace.as_bytes()).out);
+    assert!(
+        listing.text.ends_with("smm write GTT[5] \u{B7}\u{B7}\nsmm write FENCE0 \u{B7}\u{B7}\n"),
+        "{}",
+        listing.text
+    );
+}

@@ -10,8 +10,12 @@ use std::io::{self, IsTerminal};
 
 pub const ASM: Grammar = Grammar { command: "asm", values: &["--output"], switches: &[], files: 1 };
 
-pub const DISASM: Grammar =
-    Grammar { command: "disasm", values: &["--output"], switches: &["--no-macros", "--no-comments"], files: 1 };
+pub const DISASM: Grammar = Grammar {
+    command: "disasm",
+    values: &["--output"],
+    switches: &["--no-macros", "--no-comments", "--show-protected"],
+    files: 1,
+};
 
 /// `mitrophel asm`
 pub fn asm(words: &[OsString]) -> Result<Status, Failure> {
@@ -32,7 +36,11 @@ pub fn disasm(words: &[OsString]) -> Result<Status, Failure> {
     let source = options.source()?;
     let sink = options.value("--output").map_or(Sink::Standard, Sink::named);
     let list = List::read(&source, Some(Form::Binary))?;
-    let lister = Lister { macros: !options.has("--no-macros"), comments: !options.has("--no-comments") };
+    let lister = Lister {
+        macros: !options.has("--no-macros"),
+        comments: !options.has("--no-comments"),
+        show_protected: options.has("--show-protected"),
+    };
     let mut text = Vec::new();
     lister.write(&list.records, &mut text)?;
     files::save(&sink, &text)?;

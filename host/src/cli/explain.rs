@@ -4,6 +4,7 @@ use super::names::Bases;
 use super::pair::Step;
 use super::{listing, names, numbers, words};
 use mitrophel::reference::{Fence, Lsmm, Rule};
+use mitrophel::trace::REDACTED;
 use mitrophel::{Kind, Record, Refusal, Target};
 
 /// How an answer is coloured.
@@ -25,9 +26,6 @@ pub enum Secrets {
     /// `--show-protected`
     Shown,
 }
-
-/// What stands for a value of protected memory.
-pub const REDACTED: &str = "\u{B7}\u{B7}";
 
 /// What there is to say about a record and its answer.
 pub struct Told {
@@ -65,12 +63,9 @@ impl Told {
 
 /// A record as a statement, without what it writes where that is hidden.
 pub fn asked(record: &Record, bases: Bases, hidden: bool) -> String {
-    let statement = listing::statement(record, bases);
-    let data = numbers::data(record.data, record.width);
-    let is_write = record.kind().is_some_and(Kind::is_write);
-    match statement.strip_suffix(&data).filter(|_| hidden && is_write) {
-        Some(start) => format!("{start}{REDACTED}"),
-        None => statement,
+    match hidden {
+        true => listing::redacted(record, bases),
+        false => listing::statement(record, bases),
     }
 }
 

@@ -139,13 +139,18 @@ Example:
 
 const DISASM: &str = "\
 Usage: mitrophel disasm [OPTION].. FILE
-Turn the records of FILE ('-': standard input) into a text trace. 'mitrophel
-asm' gives the same bytes back for every list; a record that breaks the layout
-becomes a line of raw bytes.
+Turn the records of FILE ('-': standard input) into a text trace. A record that
+breaks the layout becomes a line of raw bytes.
 
-  -o, --output FILE  where the trace goes (default: standard output)
-      --no-macros    one line for each record
-      --no-comments  statements only
+  -o, --output FILE     where the trace goes (default: standard output)
+      --no-macros       one line for each record
+      --no-comments     statements only
+      --show-protected  show what management mode writes into protected memory;
+                        it is '\u{B7}\u{B7}' otherwise
+
+With --show-protected 'mitrophel asm' gives the same bytes back for every list,
+and without it for every list that has no such write. Comments say what a line
+shows alone: a value as it is written, whether or not it gets there.
 
 Example:
   mitrophel asm desk.trace -o desk.rec && mitrophel disasm desk.rec

@@ -1,5 +1,5 @@
 //! Records turned into a text trace. [`assemble`](super::assemble) gives the same bytes back for every
-//! list of records.
+//! list of records, unless values of protected memory are left out.
 
 use super::follow::{Follower, Ground};
 use super::names::{self, Bases};
@@ -41,6 +41,27 @@ pub fn statement(record: &Record, bases: Bases) -> String {
     }
 }
 
+/// What stands for a value of protected memory. It is no data for [`assemble`](super::assemble).
+pub const REDACTED: &str = "\u{B7}\u{B7}";
+
+/// The same without the data of a write.
+///
+/// ```
+/// use mitrophel::{trace::{listing, names::Bases}, Record};
+///
+/// let record = Record::write(0xA_0000, 4, 0x4B45_5921, true);
+/// assert_eq!(listing::redacted(&record, Bases::default()), "smm write4 A0000h \u{B7}\u{B7}");
+/// ```
+pub fn redacted(record: &Record, bases: Bases) -> String {
+    let statement = statement(record, bases);
+    let data = numbers::data(record.data, record.width);
+    let write = record.keeps_layout() && record.kind().is_some_and(Kind::is_write);
+    match statement.strip_suffix(&data).filter(|_| write) {
+        Some(start) => format!("{start}{REDACTED}"),
+        None => statement,
+    }
+}
+
 /// Any sixteen bytes.
 fn raw(record: &Record) -> String {
     let bytes = record.to_bytes().map(|byte| format!(" {byte:02X}"));
@@ -70,7 +91,7 @@ fn place(record: &Record, bases: Bases) -> String {
 ///
 /// let records = record::encode(&[Record::io_write(0xCF8, 4, 0x8000_0070), Record::io_write(0xCFC, 1, 0x40)]);
 /// let mut text = Vec::new();
-/// trace::Lister { macros: true, comments: false }.write(&records, &mut text)?;
+/// trace::Lister { macros: true, comments: false, show_protected: false }.write(&records, &mut text)?;
 /// assert_eq!(text, b"config write dev0.SMRAM 40h\n");
 /// # Ok::<(), std::io::Error>(())
 /// ```
@@ -79,6 +100,9 @@ pub struct Lister {
     pub macros: bool,
     /// Whether values are explained in comments.
     pub comments: bool,
+    /// Whether what management mode writes into protected memory is shown. Such a value is [`REDACTED`]
+    /// otherwise, and the trace does not give the same bytes back.
+    pub show_protected: bool,
 }
 
 impl Lister {
@@ -94,8 +118,12 @@ impl Lister {
         let mut rest = records.as_slice();
         while let Some(record) = rest.first() {
             let bases = follower.bases();
-            let whole = Line { taken: 1, text: statement(record, bases), comment: comment(record, bases) };
-            let line = if self.macros { folded(rest, bases).unwrap_or(whole) } else { whole };
+            let line = if !self.show_protected && is_protected(record, &follower) {
+                Line { taken: 1, text: redacted(record, bases), comment: None }
+            } else {
+                let whole = || Line { taken: 1, text: statement(record, bases), comment: comment(record, bases) };
+                folded(rest, bases).filter(|_| self.macros).unwrap_or_else(whole)
+            };
             self.line(&line, out)?;
             let (taken, left) = rest.split_at(line.taken);
             taken.iter().for_each(|record| follower.note(record));
@@ -110,6 +138,14 @@ impl Lister {
             _ => writeln!(out, "{}", line.text),
         }
     }
+}
+
+/// Whether a record is a management-mode write of what SMRAM protects.
+fn is_protected(record: &Record, follower: &Follower<'_>) -> bool {
+    record.keeps_layout()
+        && record.kind() == Some(Kind::Write)
+        && record.is_management()
+        && follower.protects(record.address)
 }
 
 /// A line, and how many records it stands for.
@@ -316,7 +352,7 @@ mod tests {
             let bytes = record::encode(&records);
             for (macros, comments) in [(true, true), (false, false)] {
                 let mut text = Vec::new();
-                Lister { macros, comments }.write(&bytes, &mut text).expect("a vector takes all");
+                Lister { macros, comments, show_protected: true }.write(&bytes, &mut text).expect("a vector takes all");
                 let text = String::from_utf8(text).expect("a listing is UTF-8");
                 let again = assemble(&text).unwrap_or_else(|errors| panic!("seed {seed}: {errors}"));
                 assert!(again.records == bytes, "seed {seed}, macros {macros}:\n{text}");
@@ -345,7 +381,9 @@ mod tests {
             }
         }
         let mut text = Vec::new();
-        Lister { macros: true, comments: true }.write(&bytes, &mut text).expect("a vector takes all");
+        Lister { macros: true, comments: true, show_protected: true }
+            .write(&bytes, &mut text)
+            .expect("a vector takes all");
         let text = String::from_utf8(text).expect("a listing is UTF-8");
         assert!(assemble(&text).expect("a listing is a trace").records == bytes);
     }
@@ -367,7 +405,9 @@ smm write GTT[11] 00000003h
         let lines: Vec<u32> = assembled.places.iter().map(|place| place.line).collect();
         assert_eq!(lines, [1, 1, 2, 2, 3, 3, 4, 4, 5, 5, 5, 5, 6, 7, 8, 9]);
         let mut listed = Vec::new();
-        Lister { macros: true, comments: false }.write(&assembled.records, &mut listed).expect("a vector takes all");
+        Lister { macros: true, comments: false, show_protected: false }
+            .write(&assembled.records, &mut listed)
+            .expect("a vector takes all");
         assert_eq!(String::from_utf8_lossy(&listed), text);
     }
 }
