@@ -122,7 +122,8 @@ impl Lister {
                 Line { taken: 1, text: redacted(record, bases), comment: None }
             } else {
                 let whole = || Line { taken: 1, text: statement(record, bases), comment: comment(record, bases) };
-                folded(rest, bases).filter(|_| self.macros).unwrap_or_else(whole)
+                let folded = if self.macros { folded(rest, bases) } else { None };
+                folded.unwrap_or_else(whole)
             };
             self.line(&line, out)?;
             let (taken, left) = rest.split_at(line.taken);
@@ -233,6 +234,9 @@ fn comment(record: &Record, bases: Bases) -> Option<String> {
 mod tests {
     use super::super::assemble;
     use super::*;
+    use crate::record::Target;
+    use crate::reference::{Gmch, TABLE_WORDS};
+    use crate::Board;
 
     /// splitmix64
     struct Random(u64);
@@ -360,6 +364,62 @@ mod tests {
             }
         }
         assert!(lines_seen > 80_000, "{lines_seen}");
+    }
+
+    /// Every write that management mode lands in protected memory, by the reference on boards with several
+    /// lengths of memory, is left out of the listing.
+    #[test]
+    fn no_landed_write_of_protected_memory_is_listed() {
+        const EDGES: [u32; 12] = [
+            0x9_FFFC,
+            0xA_0000,
+            0xB_FFFC,
+            0xC_0000,
+            0x70_0000,
+            0x78_0000,
+            0x7F_FFFC,
+            0xF0_0000,
+            0x170_0000,
+            0x178_0000,
+            0xFEEA_0000,
+            0xFEEB_FFFC,
+        ];
+        let mut landed = 0;
+        for seed in 0..60 {
+            let mut random = Random(seed);
+            let mut records = Vec::new();
+            for _ in 0..200 {
+                match random.below(8) {
+                    0 => {
+                        records.push(Record::io_write(0xCF8, 4, 0x8000_0070));
+                        let smram = random.next() & if random.one_in(8) { 0xFF } else { 0xFD };
+                        records.push(Record::io_write(0xCFC, 1, smram));
+                    }
+                    1 if random.one_in(4) => records.push(Record::reset()),
+                    _ => {
+                        let address = random.pick(&EDGES) + random.below(4);
+                        records.push(Record::write(address, random.pick(&[1, 2, 4]), random.next(), !random.one_in(4)));
+                    }
+                }
+            }
+            let mut text = Vec::new();
+            let lister = Lister { macros: false, comments: true, show_protected: false };
+            lister.write(&record::encode(&records), &mut text).expect("a vector takes all");
+            let text = String::from_utf8(text).expect("a listing is UTF-8");
+            for mib in [8, 16, 24] {
+                let (mut memory, mut table) = (vec![0; mib << 20], Box::new([0; TABLE_WORDS]));
+                let mut hub = Gmch::new(Board::I82810, &mut memory, &mut table).expect("a board");
+                for (record, line) in records.iter().zip(text.lines()) {
+                    let answer = hub.answer(record);
+                    let reached = record.is_management() && answer.target() == Some(Target::Memory);
+                    if reached && hub.protected(answer.address) {
+                        assert!(line.ends_with(REDACTED), "seed {seed}, {mib} MiB: {line}");
+                        landed += 1;
+                    }
+                }
+            }
+        }
+        assert!(landed > 1000, "{landed}");
     }
 
     /// Every record of one byte set, and every single byte of a good record changed.
