@@ -116,9 +116,9 @@ fn an_ignored_signal_stays_ignored() {
 }
 
 #[test]
-fn a_new_file_has_the_users_mode_and_a_dump_its_owners() {
+fn a_new_file_has_the_users_mode_and_a_dump_of_protected_memory_its_owners() {
     let folder = folder("modes");
-    fs::write(folder.join("trace"), "reset\n").expect("a trace");
+    fs::write(folder.join("trace"), "config write dev0.SMRAM BEh\n").expect("a trace");
     let run = |mask: c_uint, words: &[&str]| {
         let output = program(mask, SIG_DFL).current_dir(&folder).args(words).output().expect("the program ends");
         assert_eq!(output.status.code(), Some(DONE), "{}", String::from_utf8_lossy(&output.stderr));
