@@ -305,6 +305,26 @@ fn names_that_are_no_utf8_are_files() {
     }
 }
 
+/// What a trace includes is looked for in its folder, whatever bytes the folder's name has.
+#[test]
+fn a_trace_in_a_folder_of_any_name_can_include() {
+    let folder = folder("include");
+    let odd = folder.join(OsStr::from_bytes(b"odd\xFF\x1b"));
+    fs::create_dir(&odd).expect("a folder");
+    fs::write(odd.join("inner.trace"), "reset\n").expect("a trace");
+    fs::write(odd.join("outer.trace"), "include inner.trace\n").expect("a trace");
+    fs::write(odd.join("absolute.trace"), format!("include {}/outer.trace\n", word(&folder))).expect("a trace");
+    fs::write(folder.join("outer.trace"), "reset\n").expect("a trace");
+    for name in ["outer.trace", "absolute.trace"] {
+        for trace in [odd.join(name), odd.strip_prefix(&folder).expect("a part").join(name)] {
+            let mut command = cli::program();
+            command.current_dir(&folder).arg("replay").arg(trace);
+            let run = finished(command.output().expect("the program ends"));
+            assert_eq!((run.status, run.errors.as_str()), (DONE, ""), "{name}");
+        }
+    }
+}
+
 #[test]
 fn help_may_be_asked_of_help() {
     let overview = run_with(&["help"], b"").text;
@@ -366,12 +386,14 @@ fn within_memory(bytes: u64) -> Command {
 fn an_endless_input_is_refused() {
     let folder = folder("endless");
     fs::write(folder.join("trace"), "reset\n").expect("a trace");
+    fs::write(folder.join("include"), "include /dev/zero\n").expect("a trace");
     let text = "standard input: expected at most 1 GiB of what is no plain file";
     let records = "/dev/zero: expected at most 1 GiB of what is no plain file";
     for (words, part) in [
         (&["replay", "--memory", "8M", "--image", "/dev/zero", "trace"][..], "at most 8388608 bytes"),
         (&["audit", "--image", "/dev/zero", "trace"], "an image of a multiple of 8M from 8M to 512M, found more"),
         (&["replay", "/dev/zero"], records),
+        (&["replay", "include"], "'/dev/zero' cannot be read: longer than 1 GiB"),
         (&["disasm", "/dev/zero"], records),
         (&["map", "/dev/zero"], records),
         (&["asm", "-"], text),

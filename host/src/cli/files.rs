@@ -109,7 +109,7 @@ impl Input {
 }
 
 /// As much as is taken of a pipe or a device, so that one without an end does not take all memory.
-const MOST_BYTES: usize = 1 << 30;
+pub const MOST_BYTES: usize = 1 << 30;
 
 /// Where output goes.
 #[derive(Clone, Debug, PartialEq, Eq)]

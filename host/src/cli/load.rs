@@ -8,6 +8,7 @@ use mitrophel::record::{MAX_RECORDS, RECORD_BYTES};
 use mitrophel::trace::{Assembled, Expectation, Place};
 use std::io;
 use std::ops::Range;
+use std::path::Path;
 
 /// The two forms of a list.
 #[derive(Clone, Copy, Debug, PartialEq, Eq)]
@@ -54,29 +55,29 @@ pub struct List {
 impl List {
     /// Reads a list. Its form is told by its content unless it is given.
     pub fn read(source: &Source, form: Option<Form>) -> Result<List, Failure> {
-        List::of(source.name(), source.read()?, form)
+        List::of(source, source.read()?, form)
     }
 
     /// The same, of what was read.
-    pub fn of(name: String, bytes: Vec<u8>, form: Option<Form>) -> Result<List, Failure> {
+    pub fn of(source: &Source, bytes: Vec<u8>, form: Option<Form>) -> Result<List, Failure> {
         match form.unwrap_or_else(|| Form::of(&bytes)) {
-            Form::Text => List::text(name, &bytes),
-            Form::Binary => List::binary(name, bytes),
+            Form::Text => List::text(source, &bytes),
+            Form::Binary => List::binary(source.name(), bytes),
         }
     }
 
     /// The text trace that a source is.
     pub fn of_text(input: &mut Input) -> Result<List, Failure> {
         input.fill_whole()?;
-        List::text(input.source.name(), &input.bytes)
+        List::text(&input.source, &input.bytes)
     }
 
     /// A text trace.
-    pub fn text(name: String, bytes: &[u8]) -> Result<List, Failure> {
+    pub fn text(source: &Source, bytes: &[u8]) -> Result<List, Failure> {
         let text = String::from_utf8_lossy(bytes);
         let mut unread = false;
-        let include = &mut |path: &str| included(path).inspect_err(|_| unread = true);
-        let assembled = trace::assemble_with(&name, &text, include).map_err(|errors| {
+        let include = &mut |path: &str| included(source, path).inspect_err(|_| unread = true);
+        let assembled = trace::assemble_with(&source.name(), &text, include).map_err(|errors| {
             let mut failure = Failure::trace(errors.to_string());
             if unread {
                 failure.status = Status::File;
@@ -147,9 +148,14 @@ impl List {
     }
 }
 
-/// The text of a file that a trace includes.
-fn included(path: &str) -> io::Result<String> {
-    let source = Source::File(path.into());
+/// The text of a file that a trace includes. The path starts with the trace's folder as messages show it.
+fn included(trace: &Source, path: &str) -> io::Result<String> {
+    let folder = match trace {
+        Source::Standard => Path::new(""),
+        Source::File(own) => own.parent().unwrap_or(Path::new("")),
+    };
+    let path = Path::new(path).strip_prefix(shown(folder)).map_or(path.into(), |inside| folder.join(inside));
+    let source = Source::File(path);
     let bytes = source.read().map_err(|failure| {
         let own = format!("{}: ", source.name());
         io::Error::other(failure.message.strip_prefix(&own).unwrap_or(&failure.message).to_string())

@@ -56,7 +56,7 @@ fn run_by(words: &[OsString], call: Call) -> Result<Status, Failure> {
     let memory = Memory::given(&options)?;
     let bytes = source.read()?;
     let text = matches!(task, Task::Bless { .. }).then(|| bytes.clone());
-    let list = List::of(source.name(), bytes, form)?;
+    let list = List::of(&source, bytes, form)?;
     let calls = list.calls()?;
     let mut expectations = task.expectations(&list)?;
 
