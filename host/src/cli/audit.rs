@@ -7,9 +7,10 @@ use super::files::{Input, Source};
 use super::load::{self, Form, List, Memory};
 use super::names;
 use super::numbers;
-use super::pair::{self, Pair};
+use super::pair::{self, Call, Pair};
 use super::progress::Progress;
 use super::style::Style;
+use mitrophel::call::gmch_replay;
 use mitrophel::record::{self, MAX_RECORDS, RECORD_BYTES};
 use mitrophel::{Answer, Board, Refusal, Target};
 use std::ffi::OsString;
@@ -25,21 +26,9 @@ pub const GRAMMAR: Grammar = Grammar {
 /// `mitrophel audit`
 pub fn run(words: &[OsString]) -> Result<Status, Failure> {
     let options = GRAMMAR.parse(words)?;
-    options.source()?;
-    let sources = options.sources();
-    let image_is_standard = options.value("--image").is_some_and(|file| file == "-");
-    if sources.iter().filter(|source| **source == Source::Standard).count() + usize::from(image_is_standard) > 1 {
-        return Err(options.usage("standard input can be read only once"));
-    }
     let style = Style::new(options.colour()?);
-    let audit = Audit {
-        board: options.board()?,
-        form: options.form()?,
-        deny: denied(&options)?,
-        compare: options.has("--compare"),
-        memory: Memory::given(&options)?,
-    };
-    let (tally, status) = audit.files(&sources)?;
+    let audit = Audit::given(&options, gmch_replay)?;
+    let (tally, status) = audit.files(&options.sources())?;
     if tally.files == 0 {
         return Ok(status);
     }
@@ -77,9 +66,28 @@ struct Audit {
     form: Option<Form>,
     deny: Vec<Refusal>,
     compare: bool,
+    call: Call,
 }
 
 impl Audit {
+    /// What the options say, by this call.
+    fn given(options: &Options, call: Call) -> Result<Audit, Failure> {
+        options.source()?;
+        let image_is_standard = options.value("--image").is_some_and(|file| file == "-");
+        let standard = options.sources().iter().filter(|source| **source == Source::Standard).count();
+        if standard + usize::from(image_is_standard) > 1 {
+            return Err(options.usage("standard input can be read only once"));
+        }
+        Ok(Audit {
+            board: options.board()?,
+            form: options.form()?,
+            deny: denied(options)?,
+            compare: options.has("--compare"),
+            memory: Memory::given(options)?,
+            call,
+        })
+    }
+
     /// Replays every file. One that fails is told and left out.
     fn files(&self, sources: &[Source]) -> Result<(Tally, Status), Failure> {
         let lengths: Option<Vec<u64>> = sources.iter().map(Source::length).collect();
@@ -132,26 +140,27 @@ impl Audit {
 
 /// What replays: the proved call alone, or with the reference beside it.
 enum Engine {
-    Alone { board: Board, memory: Vec<u8> },
+    Alone { call: Call, board: Board, memory: Vec<u8> },
     Compared(Pair),
 }
 
 impl Engine {
     fn new(audit: &Audit) -> Engine {
         match audit.compare {
-            true => Engine::Compared(Pair::new(audit.board, [audit.memory.fresh(), audit.memory.fresh()])),
-            false => Engine::Alone { board: audit.board, memory: audit.memory.fresh() },
+            true => Engine::Compared(Pair::by(audit.board, [audit.memory.fresh(), audit.memory.fresh()], audit.call)),
+            false => Engine::Alone { call: audit.call, board: audit.board, memory: audit.memory.fresh() },
         }
     }
 
     fn replay(&mut self, records: &[u8]) -> Result<Vec<u8>, Failure> {
         match self {
             Engine::Compared(pair) => pair.replay(records, |_| Ok(())),
-            Engine::Alone { board, memory } => {
+            Engine::Alone { call, board, memory } => {
                 let mut answers = vec![0; records.len()];
-                mitrophel::replay(*board, memory, records, &mut answers)
-                    .map_err(|refused| Failure::disagreement(format!("the call refused good arguments: {refused}")))?;
-                Ok(answers)
+                match call(board.number(), memory, records, &mut answers) {
+                    0 => Ok(answers),
+                    code => Err(Failure::disagreement(format!("the call refused good arguments with {code}"))),
+                }
             }
         }
     }
@@ -346,5 +355,59 @@ fn painted(style: Style, line: &str, count: u64, denied: bool) -> String {
         (0, _) => style.dim(line),
         (_, true) => style.bad(line),
         (_, false) => line.to_string(),
+    }
+}
+
+#[cfg(test)]
+mod tests {
+    use super::*;
+    use mitrophel::faults::{Fault, OneFault};
+    use mitrophel::reference::{self, Unobserved};
+
+    /// The example in which an entry is aimed at the key.
+    const EXAMPLE: &str = concat!(env!("CARGO_MANIFEST_DIR"), "/../examples/fault-1-entry-aimed-at-the-key.trace");
+
+    fn audited(words: &[&str], call: Call) -> Result<Status, Failure> {
+        let words: Vec<OsString> = words.iter().map(OsString::from).collect();
+        let options = GRAMMAR.parse(&words)?;
+        let (_, status) = Audit::given(&options, call)?.files(&options.sources())?;
+        Ok(status)
+    }
+
+    fn leaking(board: u32, memory: &mut [u8], records: &[u8], answers: &mut [u8]) -> u32 {
+        let fault = OneFault::new(Fault::ProtectionNotChecked);
+        reference::replay_with(board, memory, records, answers, Unobserved, fault)
+    }
+
+    /// The reference is asked where `--compare` is given, and only there.
+    #[test]
+    fn a_disagreement_is_found_by_comparing() {
+        assert_eq!(audited(&[EXAMPLE], leaking).expect("nothing to compare with"), Status::Done);
+        let failure = audited(&["--compare", EXAMPLE], leaking).expect_err("the two disagree");
+        assert_eq!(failure.status, Status::Disagreement);
+        assert!(
+            failure.message.contains("key.trace: THE PROVED CALL AND THE REFERENCE DISAGREE"),
+            "{}",
+            failure.message
+        );
+        assert_eq!(audited(&["--compare", EXAMPLE], gmch_replay).expect("the two agree"), Status::Done);
+    }
+
+    /// A call that takes one board alone.
+    fn only_dc100(board: u32, memory: &mut [u8], records: &[u8], answers: &mut [u8]) -> u32 {
+        match Board::from_number(board) {
+            Some(Board::Dc100) => gmch_replay(board, memory, records, answers),
+            _ => 1,
+        }
+    }
+
+    #[test]
+    fn the_board_that_is_named_is_replayed() {
+        for words in [&[EXAMPLE][..], &["--compare", EXAMPLE]] {
+            let failure = audited(words, only_dc100).expect_err("another board");
+            assert_eq!(failure.status, Status::Disagreement);
+            let words = [&["--board", "dc100"], words].concat();
+            assert_eq!(audited(&words, only_dc100).expect("that board"), Status::Done);
+        }
     }
 }

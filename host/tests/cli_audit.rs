@@ -1,0 +1,84 @@
+//! The night audit: what each list is replayed on.
+
+mod cli;
+
+use cli::{folder, run, run_with, word, Run, DENIED, DONE};
+use mitrophel::{record, Record};
+use std::fs;
+use std::path::Path;
+
+/// A ring of eight words at memory 180000h, and a run over it: eight no-ops where memory is zero.
+const RING: &str = "\
+config write dev0.SMRAM 40h
+config write dev1.GMADR C0000000h
+config write dev1.MMADR F0000000h
+config write dev1.PCICMD 6
+entries 128..129 180000h
+write PGTBL_CTL 1
+write LP_RING_START 80000h
+write LP_RING_TAIL 20h
+write LP_RING_LENGTH 1001h
+run 10
+";
+
+/// Where the ring's last word lies, and an instruction that the parser does not know.
+const LAST: u32 = 0x18_001C;
+const UNKNOWN: u32 = 0x0380_0000;
+
+fn records(trace: &str) -> Vec<Record> {
+    let run = run_with(&["asm", "-"], trace.as_bytes());
+    assert_eq!(run.status, DONE, "{}", run.errors);
+    record::decode(&run.out).collect()
+}
+
+fn save(path: &Path, records: &[Record]) {
+    fs::write(path, record::encode(records)).expect("a list");
+}
+
+/// An audit that denies unknown instructions.
+fn audit(words: &[&str]) -> Run {
+    run(&[&["audit", "--deny", "instruction"], words].concat())
+}
+
+#[test]
+fn an_audit_starts_every_file_with_the_image() {
+    let folder = folder("audit-image");
+    let (ring, image) = (word(&folder.join("ring.rec")), word(&folder.join("image.bin")));
+    save(ring.as_ref(), &records(RING));
+    let mut memory = vec![0; LAST as usize];
+    memory.extend(UNKNOWN.to_le_bytes());
+    fs::write(&image, memory).expect("an image");
+    for compare in [&[][..], &["--compare"]] {
+        let zeros = audit(&[compare, &[&ring, &ring]].concat());
+        assert_eq!(zeros.status, DONE, "{}", zeros.errors);
+        assert!(zeros.text.starts_with("2 files, 30 records in 2 calls, 16 parser steps\n"), "{}", zeros.text);
+        let imaged = audit(&[compare, &["--memory", "8M", "--image", &image, &ring, &ring]].concat());
+        assert_eq!(imaged.status, DENIED, "{}", imaged.errors);
+        assert!(imaged.text.starts_with("2 files, 30 records in 2 calls, 14 parser steps\n"), "{}", imaged.text);
+        assert!(imaged.text.contains("12  instruction                             2  denied"), "{}", imaged.text);
+    }
+}
+
+/// The calls of one list share their memory, as those of different lists do not.
+#[test]
+fn the_calls_of_a_long_list_share_its_memory() {
+    let folder = folder("audit-calls");
+    let mut first = vec![Record::read(0x1000, 4, false); 65_000];
+    first.push(Record::write(LAST, 4, UNKNOWN, false));
+    let mut second = vec![Record::reset()];
+    second.extend(records(RING));
+    second.extend(vec![Record::read(0x1000, 4, false); 65_000]);
+    let paths = ["first.rec", "second.rec", "both.rec"].map(|name| folder.join(name));
+    save(&paths[0], &first);
+    save(&paths[1], &second);
+    save(&paths[2], &[first, second].concat());
+    let [first, second, both] = paths.map(|path| word(&path));
+    for compare in [&[][..], &["--compare"]] {
+        let apart = audit(&[compare, &[&first, &second]].concat());
+        assert_eq!(apart.status, DONE, "{}", apart.errors);
+        assert!(apart.text.starts_with("2 files, 130,017 records in 2 calls, 8 parser steps\n"), "{}", apart.text);
+        let joined = audit(&[compare, &[&both]].concat());
+        assert_eq!(joined.status, DENIED, "{}", joined.errors);
+        assert!(joined.text.starts_with("1 file, 130,017 records in 2 calls, 7 parser steps\n"), "{}", joined.text);
+    }
+}
