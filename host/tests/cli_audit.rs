@@ -2,7 +2,7 @@
 
 mod cli;
 
-use cli::{folder, run, run_with, word, Run, DENIED, DONE};
+use cli::{examples, folder, run, run_with, word, Run, DENIED, DONE, FILE, INPUT, USAGE};
 use mitrophel::{record, Record};
 use std::fs;
 use std::path::Path;
@@ -80,5 +80,65 @@ fn the_calls_of_a_long_list_share_its_memory() {
         let joined = audit(&[compare, &[&both]].concat());
         assert_eq!(joined.status, DENIED, "{}", joined.errors);
         assert!(joined.text.starts_with("1 file, 130,017 records in 2 calls, 7 parser steps\n"), "{}", joined.text);
+    }
+}
+
+/// However many files are replayed side by side, the same is printed and said in the same order.
+#[test]
+fn jobs_change_nothing_of_what_is_told() {
+    let folder = folder("audit-jobs");
+    let fault = word(&examples().join("fault-1-entry-aimed-at-the-key.trace"));
+    let mut words = Vec::new();
+    for number in 0..24 {
+        let path = folder.join(format!("{number:02}.rec"));
+        // The first files take longest, so that later ones are done before them.
+        let mut records = vec![Record::read(0x1000, 4, false); 60_000 >> number.min(15)];
+        if number % 2 == 0 {
+            records.extend(vec![Record::read(0x1001, 4, false); 1 + number]);
+        }
+        match number % 5 {
+            3 => fs::write(&path, [0; 17]).expect("a list that is cut off"),
+            4 => {}
+            _ => save(&path, &records),
+        }
+        words.push(word(&path));
+    }
+    words.insert(7, "-".to_string());
+    words.push(fault);
+    let told = |jobs: &[&str]| {
+        let own: Vec<&str> = words.iter().map(String::as_str).collect();
+        let run = run_with(&[&["audit", "--deny", "width,protected"], jobs, &own].concat(), b"read4 1001h\n");
+        (run.status, run.text, run.errors)
+    };
+    let one = told(&["--jobs", "1"]);
+    assert_eq!(one.0, DENIED);
+    assert!(one.1.starts_with("17 files, "), "{}", one.1);
+    assert!(one.2.lines().count() > 20, "{}", one.2);
+    assert!(one.2.contains("mitrophel: standard input:1: refused 2"), "{}", one.2);
+    for jobs in [&["--jobs=2"][..], &["--jobs", "5"], &["--jobs", "4000000000"], &[]] {
+        assert_eq!(told(jobs), one, "{jobs:?}");
+    }
+}
+
+/// The status of several failed files is the last one's, in the files' order.
+#[test]
+fn jobs_keep_the_status_of_the_last_file_that_failed() {
+    let folder = folder("audit-status");
+    let (long, short) = (word(&folder.join("long.rec")), word(&folder.join("missing.rec")));
+    let mut records = record::encode(&vec![Record::read(0x1000, 4, false); 60_000]);
+    records.push(0);
+    fs::write(&long, records).expect("a list that is cut off");
+    for jobs in ["--jobs=1", "--jobs=2"] {
+        assert_eq!(run(&["audit", jobs, &short, &long]).status, INPUT, "{jobs}");
+        assert_eq!(run(&["audit", jobs, &long, &short]).status, FILE, "{jobs}");
+    }
+}
+
+#[test]
+fn a_wrong_number_of_jobs_is_told() {
+    for (jobs, part) in [("0", "found '0'"), ("-1", "found '-1'"), ("many", "found 'many'"), ("1.5", "found '1.5'")] {
+        let run = run(&["audit", "--jobs", jobs, "-"]);
+        assert_eq!(run.status, USAGE);
+        assert!(run.errors.contains(&format!("--jobs: expected a number above 0, {part}")), "{}", run.errors);
     }
 }

@@ -13,12 +13,18 @@ use super::style::Style;
 use mitrophel::call::gmch_replay;
 use mitrophel::record::{self, MAX_RECORDS, RECORD_BYTES};
 use mitrophel::{Answer, Board, Refusal, Target};
+use std::collections::BTreeMap;
 use std::ffi::OsString;
 use std::io::{self, Write};
+use std::num::NonZero;
+use std::sync::atomic::{AtomicUsize, Ordering};
+use std::sync::mpsc::{self, Receiver, Sender};
+use std::sync::{Mutex, MutexGuard, PoisonError};
+use std::thread;
 
 pub const GRAMMAR: Grammar = Grammar {
     command: "audit",
-    values: &["--deny", "--board", "--memory", "--image", "--color"],
+    values: &["--deny", "--board", "--memory", "--image", "--jobs", "--color"],
     switches: &["--compare", "--text", "--binary"],
     files: usize::MAX,
 };
@@ -59,6 +65,15 @@ fn unknown_kind(options: &Options, name: &str) -> Failure {
     options.usage(format!("--deny: expected 'all' or one of {known}, found '{}'", shown(name)))
 }
 
+/// `--jobs`, as many as there are cores where none are given.
+fn jobs(options: &Options) -> Result<usize, Failure> {
+    let jobs = options.converted("--jobs", |text| {
+        let jobs = numbers::number(text).ok().filter(|&jobs| jobs > 0);
+        jobs.ok_or_else(|| "a number above 0".to_string())
+    })?;
+    Ok(jobs.map_or_else(|| thread::available_parallelism().map_or(1, NonZero::get), |jobs| jobs as usize))
+}
+
 /// How every list is replayed.
 struct Audit {
     board: Board,
@@ -66,6 +81,8 @@ struct Audit {
     form: Option<Form>,
     deny: Vec<Refusal>,
     compare: bool,
+    /// How many files are replayed side by side at most.
+    jobs: usize,
     call: Call,
 }
 
@@ -83,59 +100,143 @@ impl Audit {
             form: options.form()?,
             deny: denied(options)?,
             compare: options.has("--compare"),
+            jobs: jobs(options)?,
             memory: Memory::given(options)?,
             call,
         })
     }
 
-    /// Replays every file. One that fails is told and left out.
+    /// Replays every file, several side by side. One that fails is told and left out.
     fn files(&self, sources: &[Source]) -> Result<(Tally, Status), Failure> {
         let lengths: Option<Vec<u64>> = sources.iter().map(Source::length).collect();
-        let mut progress = Progress::new(lengths.map(|lengths| lengths.iter().sum()));
-        let mut total = Tally::default();
-        let mut failed = None;
-        for source in sources {
-            match self.file(source, &mut progress) {
-                Ok(tally) => {
-                    progress.clear();
-                    tally.tell_denied(&source.name());
-                    total.add(&tally);
-                }
-                Err(failure) if matches!(failure.status, Status::Input | Status::File) => {
-                    progress.clear();
-                    failure.tell();
-                    total.left_out += 1;
-                    failed = Some(failure.status);
-                }
-                Err(failure) => {
-                    progress.clear();
-                    return Err(failure);
-                }
+        let progress = Progress::new(lengths.map(|lengths| lengths.iter().sum()));
+        let night = Night {
+            audit: self,
+            sources,
+            next: AtomicUsize::new(0),
+            last: AtomicUsize::new(usize::MAX),
+            progress: Mutex::new(progress),
+        };
+        let result = thread::scope(|scope| {
+            let (done, results) = mpsc::channel();
+            let job = |_: &usize| {
+                let (night, done) = (&night, done.clone());
+                thread::Builder::new().spawn_scoped(scope, move || night.job(&done)).is_ok()
+            };
+            // Where the system has no more threads, fewer do the same work, and be it this one alone.
+            if (0..self.jobs.min(sources.len())).filter(job).count() == 0 {
+                night.job(&done);
             }
-        }
+            drop(done);
+            night.collect(results)
+        });
+        let mut progress = night.progress.into_inner().unwrap_or_else(PoisonError::into_inner);
+        progress.clear();
+        let (total, failed) = result?;
         progress.finish();
         let status = if total.denied != 0 { Status::Unmet } else { failed.unwrap_or(Status::Done) };
         Ok((total, status))
     }
+}
 
-    /// Replays one file from a cold start on fresh memory.
-    fn file(&self, source: &Source, progress: &mut Progress) -> Result<Tally, Failure> {
-        let mut calls = Calls::open(source, self.form)?;
-        let mut engine = Engine::new(self);
+/// A file's number and what came of it.
+type Done = (usize, Result<Tally, Failure>);
+
+/// What the jobs of an audit share.
+struct Night<'a> {
+    audit: &'a Audit,
+    sources: &'a [Source],
+    /// The first file that no job has taken.
+    next: AtomicUsize,
+    /// The last file that is wanted: the first one that ends the audit.
+    last: AtomicUsize,
+    progress: Mutex<Progress>,
+}
+
+impl Night<'_> {
+    /// Takes file after file.
+    fn job(&self, done: &Sender<Done>) {
+        loop {
+            let index = self.next.fetch_add(1, Ordering::Relaxed);
+            let Some(source) = self.sources.get(index).filter(|_| self.wants(index)) else { return };
+            let result = self.file(index, source);
+            if result.as_ref().is_err_and(|failure| !leaves_out(failure)) {
+                self.last.fetch_min(index, Ordering::Relaxed);
+            }
+            // Nobody listens once the audit has ended.
+            let _ = done.send((index, result));
+        }
+    }
+
+    fn wants(&self, index: usize) -> bool {
+        index <= self.last.load(Ordering::Relaxed)
+    }
+
+    /// Replays one file from a cold start on fresh memory, for as long as it is wanted.
+    fn file(&self, index: usize, source: &Source) -> Result<Tally, Failure> {
+        let audit = self.audit;
+        let mut calls = Calls::open(source, audit.form)?;
+        let mut engine = Engine::new(audit);
         let mut tally = Tally { files: 1, ..Tally::default() };
-        while let Some(records) = calls.next()? {
+        while let Some(records) = calls.next()?.filter(|_| self.wants(index)) {
             let answers = engine.replay(&records).map_err(|failure| failure.in_file(&source.name()))?;
-            for (index, answer) in record::decode_answers(&answers).enumerate() {
+            for (at, answer) in record::decode_answers(&answers).enumerate() {
                 tally.count(&answer);
-                if answer.refusal().is_some_and(|refusal| self.deny.contains(&refusal)) {
-                    tally.deny(&answer, || calls.place(index));
+                if answer.refusal().is_some_and(|refusal| audit.deny.contains(&refusal)) {
+                    tally.deny(&answer, || calls.place(at));
                 }
             }
             tally.calls += 1;
-            progress.add(calls.taken(&records), records.len() as u64 / RECORD_BYTES as u64);
+            self.progress().add(calls.taken(&records), records.len() as u64 / RECORD_BYTES as u64);
         }
         Ok(tally)
     }
+
+    /// Adds up what the jobs found. What there is to say about a file is said in the files' order, whichever
+    /// was done first; the status is that of the last file that failed.
+    fn collect(&self, results: Receiver<Done>) -> Result<(Tally, Option<Status>), Failure> {
+        let mut total = Tally::default();
+        let mut failed = None;
+        let mut waiting = BTreeMap::new();
+        let mut said = 0;
+        for (index, result) in results {
+            let result = result.map(|tally| {
+                total.add(&tally);
+                tally.denials(&self.sources[index].name())
+            });
+            waiting.insert(index, result);
+            while let Some(result) = waiting.remove(&said) {
+                said += 1;
+                match result {
+                    Ok(None) => {}
+                    Ok(Some(denials)) => self.say(|| complain(&denials)),
+                    Err(failure) if leaves_out(&failure) => {
+                        self.say(|| failure.tell());
+                        total.left_out += 1;
+                        failed = Some(failure.status);
+                    }
+                    Err(failure) => return Err(failure),
+                }
+            }
+        }
+        Ok((total, failed))
+    }
+
+    /// Says something where the bar is, which no job draws meanwhile.
+    fn say(&self, say: impl FnOnce()) {
+        let mut progress = self.progress();
+        progress.clear();
+        say();
+    }
+
+    fn progress(&self) -> MutexGuard<'_, Progress> {
+        self.progress.lock().unwrap_or_else(PoisonError::into_inner)
+    }
+}
+
+/// Whether a failure is one of its file alone.
+fn leaves_out(failure: &Failure) -> bool {
+    matches!(failure.status, Status::Input | Status::File)
 }
 
 /// What replays: the proved call alone, or with the reference beside it.
@@ -278,15 +379,14 @@ impl Tally {
         }
     }
 
-    /// Names the first denied refusal of a file.
-    fn tell_denied(&self, name: &str) {
-        if let Some(first) = &self.first_denied {
-            complain(&format!("mitrophel: {first} (denied)"));
-            if self.denied > 1 {
-                let more = numbers::counted(self.denied - 1, "more denied refusal");
-                complain(&format!("mitrophel: {name}: {more}"));
-            }
+    /// Names the first denied refusal of a file, and counts the others.
+    fn denials(&self, name: &str) -> Option<String> {
+        let mut denials = format!("mitrophel: {} (denied)", self.first_denied.as_ref()?);
+        if self.denied > 1 {
+            let more = numbers::counted(self.denied - 1, "more denied refusal");
+            denials.push_str(&format!("\nmitrophel: {name}: {more}"));
         }
+        Some(denials)
     }
 
     fn add(&mut self, other: &Tally) {
@@ -391,6 +491,22 @@ mod tests {
             failure.message
         );
         assert_eq!(audited(&["--compare", EXAMPLE], gmch_replay).expect("the two agree"), Status::Done);
+    }
+
+    /// A disagreement ends the audit as it does where one file is replayed after the other: the first in the
+    /// files' order is told, whichever is found first.
+    #[test]
+    fn the_first_disagreement_of_the_files_ends_the_audit() {
+        let good = concat!(env!("CARGO_MANIFEST_DIR"), "/../examples/02-records-and-answers.trace");
+        let other = concat!(env!("CARGO_MANIFEST_DIR"), "/../examples/fault-3-pages-near-the-top.trace");
+        for jobs in ["--jobs=1", "--jobs=3", "--jobs=9"] {
+            for bad in [EXAMPLE, other] {
+                let words = [jobs, "--compare", good, good, bad, good, EXAMPLE, other, "/no/file"];
+                let failure = audited(&words, leaking).expect_err("the two disagree");
+                assert_eq!(failure.status, Status::Disagreement);
+                assert!(failure.message.starts_with(&format!("{bad}: ")), "{jobs}: {}", failure.message);
+            }
+        }
     }
 
     /// A call that takes one board alone.

@@ -197,6 +197,7 @@ terminal.
   --memory SIZE     main memory: a multiple of 8M, 8M to 512M
                     (default: the image's length, else 8M)
   --image FILE      memory at the start of every FILE
+  --jobs NUMBER     files replayed side by side (default: one for each core)
   --text, --binary  take every FILE for a text trace, or for the binary form
   --color WHEN      auto (default), always or never
 
