@@ -218,7 +218,8 @@ Usage: mitrophel demo [OPTION]..
 On an embedded sample: a desk is set up, management mode keeps the key, the
 lobby picture is drawn through the window and read from memory, the faults of
 three earlier models are tried, and all is replayed again with another key.
-Every outcome is checked.
+Every outcome is checked: the exit status is 5 if one is not as the sample has
+it, or depends on the key.
 
   --ascii       draw the picture in ASCII instead of half blocks
   --color WHEN  auto (default), always or never
