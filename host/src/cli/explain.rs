@@ -3,7 +3,7 @@
 use super::names::Bases;
 use super::pair::Step;
 use super::{listing, names, numbers, words};
-use mitrophel::reference::{Fence, Lsmm, Rule};
+use mitrophel::reference::{Fence, Gmch, Lsmm, Observer, Rule};
 use mitrophel::trace::REDACTED;
 use mitrophel::{Kind, Record, Refusal, Target};
 
@@ -152,7 +152,7 @@ fn why(step: &Step<'_, '_>, refusal: Refusal) -> String {
         Refusal::RingOffset => ring_offset(step),
         Refusal::UnknownInstruction => unknown_instruction(step),
         _ => match graphics_offset(step) {
-            Some(offset) => bad_entry(step, refusal, offset),
+            Some(offset) => bad_entry(step.hub, refusal, offset),
             None => refusal.reason().to_string(),
         },
     }
@@ -215,9 +215,10 @@ fn fetch_offset(step: &Step<'_, '_>) -> u32 {
     ring.start.wrapping_add(ring.head_offset())
 }
 
-fn bad_entry(step: &Step<'_, '_>, refusal: Refusal, offset: u32) -> String {
+/// Why the entry of a graphics offset is refused.
+pub fn bad_entry<O: Observer>(hub: &Gmch<'_, O>, refusal: Refusal, offset: u32) -> String {
     let entry = offset / 4096;
-    let word = step.hub.table().get(entry as usize).copied().unwrap_or_default();
+    let word = hub.table().get(entry as usize).copied().unwrap_or_default();
     let page = words::entry_page(word);
     match refusal {
         Refusal::EntryNotValid => format!("entry {entry}, {word:08X}h, is not valid"),
@@ -225,7 +226,7 @@ fn bad_entry(step: &Step<'_, '_>, refusal: Refusal, offset: u32) -> String {
         Refusal::EntryType => format!("entry {entry} has type 10"),
         Refusal::PageProtected => format!("entry {entry}'s page {page:X}h is protected"),
         Refusal::PageAboveMemory => {
-            format!("entry {entry}'s page {page:X}h is at or above the top of memory, {:X}h", step.hub.tom())
+            format!("entry {entry}'s page {page:X}h is at or above the top of memory, {:X}h", hub.tom())
         }
         _ => refusal.reason().to_string(),
     }
@@ -242,7 +243,7 @@ fn ring_offset(step: &Step<'_, '_>) -> String {
 
 fn unknown_instruction(step: &Step<'_, '_>) -> String {
     let offset = fetch_offset(step);
-    let word = step.hub.fetch_address(offset).and_then(|address| step.hub.memory().get(address as usize..));
+    let word = step.hub.fetch_address(offset).ok().and_then(|address| step.hub.memory().get(address as usize..));
     match word.and_then(|bytes| bytes.first_chunk()) {
         Some(bytes) => format!("word {:08X}h is no instruction", u32::from_le_bytes(*bytes)),
         None => Refusal::UnknownInstruction.reason().to_string(),

@@ -5,6 +5,7 @@ pub const COMMANDS: &[(&str, &str, &str)] = &[
     ("replay", "replay records on a board and explain each answer", REPLAY),
     ("asm", "turn a text trace into records", ASM),
     ("disasm", "turn records into a text trace", DISASM),
+    ("state", "show what records leave in the hub's registers", STATE),
     ("map", "show where each address goes", MAP),
     ("audit", "replay many lists and count the refusals", AUDIT),
     ("demo", "a desk, its lobby picture and three earlier faults", DEMO),
@@ -154,6 +155,30 @@ shows alone: a value as it is written, whether or not it gets there.
 
 Example:
   mitrophel asm desk.trace -o desk.rec && mitrophel disasm desk.rec
+";
+
+const STATE: &str = "\
+Usage: mitrophel state [OPTION].. FILE
+Replay the records of FILE from a cold start and show what they leave: the
+registers by name with their fields in words, the valid entries of the
+translation table, the ring's words from head to tail, configuration space.
+Values in protected memory are never shown. FILE is a text trace or the binary
+form, told apart by its content; '-' is standard input.
+
+  --lspci           configuration space alone, as 'lspci -F' reads it
+  --board NAME      82810 (default) or dc100
+  --memory SIZE     main memory: a multiple of 8M, 8M to 512M
+                    (default: the image's length, else 8M)
+  --image FILE      memory at the start, from address 0; the rest is zero
+  --text, --binary  take FILE for a text trace, or for the binary form,
+                    whatever its content
+  --color WHEN      auto (default), always or never
+
+The values are those of the replay in ordinary Rust beside the proved call,
+with which it agrees record by record, or else the exit status is 5.
+
+Example:
+  mitrophel state --lspci desk.trace > desk.pci && lspci -F desk.pci -v
 ";
 
 const MAP: &str = "\

@@ -71,10 +71,16 @@ fn traced(options: &Options, source: &Source) -> Result<List, Failure> {
     if let Some(option) = only_without.iter().find(|option| options.has(option)) {
         return Err(options.usage(format!("{option} and FILE exclude each other: FILE's records decide")));
     }
+    one_input(options, source)?;
+    List::read(source, options.form()?)
+}
+
+/// Asks that standard input is not wanted twice.
+pub fn one_input(options: &Options, source: &Source) -> Result<(), Failure> {
     if *source == Source::Standard && options.value("--image").is_some_and(|file| file == "-") {
         return Err(options.usage("FILE and --image cannot both be standard input"));
     }
-    List::read(source, options.form()?)
+    Ok(())
 }
 
 /// The list that sets up what the options describe.
@@ -151,18 +157,16 @@ impl Map {
         let state = if self.translation { "on" } else { "off: every access through it is refused 3" };
         writeln!(out, "\n{}", style.bold(&format!("Translation table ({state})")))?;
         for mapping in &self.table {
-            let Mapping { first, last, page, reach } = *mapping;
-            let entries = if first == last { format!("{first}") } else { format!("{first}..{last}") };
-            let bytes = (last - first + 1) * 4096 - 1;
-            let pages = format!("{page:08X}-{:08X}", page + bytes);
+            let Mapping { first, last, page, kind, reach } = *mapping;
+            let pages = format!("{page:08X}-{:08X}", mapping.end());
             let goes = match reach {
                 Reach::Reached => format!("memory {pages}"),
-                Reach::OtherMemory => style.bad("refused 5: type 01 or 10"),
+                Reach::OtherMemory => style.bad(&format!("refused 5: type {kind:02b}")),
                 Reach::AboveMemory => style.bad(&format!("refused 7: {pages}")),
                 Reach::Protected => style.bad(&format!("refused 6: {pages}")),
             };
-            let window = format!("{:07X}-{:07X}", first * 4096, first * 4096 + bytes);
-            writeln!(out, "  window {window}  entries {entries:<13} {goes}")?;
+            let window = format!("{:07X}-{:07X}", first * 4096, last * 4096 + 4095);
+            writeln!(out, "  window {window}  entries {:<13} {goes}", mapping.entries())?;
         }
         Ok(())
     }

@@ -20,6 +20,7 @@ mod picture;
 mod progress;
 mod replay;
 mod report;
+mod state;
 mod style;
 mod survey;
 mod svg;
@@ -41,6 +42,7 @@ const COMMANDS: &[(Grammar, Run)] = &[
     (replay::GRAMMAR, replay::run),
     (convert::ASM, convert::asm),
     (convert::DISASM, convert::disasm),
+    (state::GRAMMAR, state::run),
     (map::GRAMMAR, map::run),
     (audit::GRAMMAR, audit::run),
     (demo::GRAMMAR, demo::run),

@@ -83,7 +83,24 @@ impl Pair {
     }
 
     /// Makes one call and gives its answers. `each` is told every record.
-    pub fn replay<E>(&mut self, records: &[u8], mut each: E) -> Result<Vec<u8>, Failure>
+    pub fn replay<E>(&mut self, records: &[u8], each: E) -> Result<Vec<u8>, Failure>
+    where
+        E: FnMut(&Step<'_, '_>) -> Result<(), Failure>,
+    {
+        self.both(records, each, |_| ()).map(|(answers, ())| answers)
+    }
+
+    /// Makes one call and gives what `look` sees in the reference after it.
+    pub fn look<T>(&mut self, records: &[u8], look: impl FnOnce(&Gmch<'_, Heard>) -> T) -> Result<T, Failure> {
+        self.both(records, |_| Ok(()), look).map(|(_, seen)| seen)
+    }
+
+    fn both<E, T>(
+        &mut self,
+        records: &[u8],
+        mut each: E,
+        look: impl FnOnce(&Gmch<'_, Heard>) -> T,
+    ) -> Result<(Vec<u8>, T), Failure>
     where
         E: FnMut(&Step<'_, '_>) -> Result<(), Failure>,
     {
@@ -105,8 +122,9 @@ impl Pair {
             let now = register_now(&mut hub, &record, &answer);
             each(&Step { index, record, answer, rule, protected, bases, now, hub: &hub })?;
         }
+        let seen = look(&hub);
         self.compare_memory()?;
-        Ok(answers)
+        Ok((answers, seen))
     }
 
     fn compare_memory(&self) -> Result<(), Failure> {
@@ -221,6 +239,8 @@ mod tests {
         let failure = pair.replay(&[], |_| Ok(())).expect_err("a scribbling call");
         assert_eq!(failure.status, Status::Disagreement);
         assert!(failure.message.contains("about memory: byte 1234h differs"), "{}", failure.message);
+        let failure = Pair::by(Board::I82810, memory(), scribbling).look(&[], |hub| hub.tom()).expect_err("the same");
+        assert_eq!(failure.status, Status::Disagreement);
         let failure = Pair::by(Board::I82810, memory(), refusing).replay(&[], |_| Ok(())).expect_err("a refusing call");
         assert_eq!(failure.status, Status::Disagreement);
     }

@@ -9,7 +9,7 @@ use super::load::{List, Memory};
 use super::pair::{Pair, Step};
 use super::{names, numbers, words};
 use mitrophel::record::{self, MAX_RECORDS, RECORD_BYTES};
-use mitrophel::reference::{Gmch, Rule};
+use mitrophel::reference::{Gmch, Observer, Rule};
 use mitrophel::{Board, Record};
 
 /// Where one kind of access goes.
@@ -45,14 +45,31 @@ pub struct Row {
     pub name: &'static str,
 }
 
-/// Entries of the table, one after the other, whose pages count up and are all reached or all refused
-/// for the same reason.
+/// Entries of the table, one after the other, of one type, whose pages count up and are all reached or all
+/// refused for the same reason.
 #[derive(Clone, Copy, Debug, PartialEq, Eq)]
 pub struct Mapping {
     pub first: u32,
     pub last: u32,
     pub page: u32,
+    /// "type 2:1 (00, 11 main memory; 01 display cache)"
+    pub kind: u32,
     pub reach: Reach,
+}
+
+impl Mapping {
+    /// The entries' numbers: `3` or `0..15`.
+    pub fn entries(&self) -> String {
+        match self.first == self.last {
+            true => self.first.to_string(),
+            false => format!("{}..{}", self.first, self.last),
+        }
+    }
+
+    /// The address of the last byte that the entries name.
+    pub fn end(&self) -> u32 {
+        self.page + 4096 * (self.last - self.first) + 4095
+    }
 }
 
 /// What becomes of a valid entry.
@@ -101,13 +118,8 @@ fn probes(edge: u32) -> [Record; 4] {
 impl Map {
     /// The map in force after the list's records.
     pub fn after(board: Board, memory: &Memory, list: &List) -> Result<Map, Failure> {
-        let mut calls = list.calls()?;
-        let last = calls.pop().unwrap_or(0..0);
         let mut pair = Pair::new(board, [memory.fresh(), memory.fresh()]);
-        for call in calls {
-            pair.replay(&list.records[call], |_| Ok(()))?;
-        }
-        let setup = &list.records[last.clone()];
+        let setup = last_call(&mut pair, list)?;
         let edges = edges_after(setup, memory.length() as u32);
         let mut records = setup.to_vec();
         records.extend(record::encode(&edges.iter().flat_map(|edge| probes(*edge)).collect::<Vec<_>>()));
@@ -185,15 +197,7 @@ impl Asked {
             self.lines.push("Window and registers are off.".to_string());
         }
         self.translation = step.hub.register(0x2020).is_some_and(|control| control & 1 != 0);
-        self.table = mappings(step.hub.table(), |page| {
-            if page >= hub.tom() {
-                Reach::AboveMemory
-            } else if hub.protected(page) {
-                Reach::Protected
-            } else {
-                Reach::Reached
-            }
-        });
+        self.table = mappings(hub);
     }
 
     fn finish(self) -> Map {
@@ -280,25 +284,49 @@ fn management(data: Rule, code: Rule) -> Cell {
 }
 
 /// The valid entries, in runs.
-fn mappings(table: &[u32], reach: impl Fn(u32) -> Reach) -> Vec<Mapping> {
+pub fn mappings<O: Observer>(hub: &Gmch<'_, O>) -> Vec<Mapping> {
+    runs(hub.table(), |page| {
+        if page >= hub.tom() {
+            Reach::AboveMemory
+        } else if hub.protected(page) {
+            Reach::Protected
+        } else {
+            Reach::Reached
+        }
+    })
+}
+
+/// The same of any table, where `reach` says what becomes of a page of main memory.
+fn runs(table: &[u32], reach: impl Fn(u32) -> Reach) -> Vec<Mapping> {
     let mut mappings: Vec<Mapping> = Vec::new();
     for (entry, word) in (0..).zip(table.iter().copied()) {
         if word & 1 == 0 {
             continue;
         }
-        let page = words::entry_page(word);
-        let reach = if matches!(word >> 1 & 3, 1 | 2) { Reach::OtherMemory } else { reach(page) };
+        let (page, kind) = (words::entry_page(word), word >> 1 & 3);
+        let reach = if matches!(kind, 1 | 2) { Reach::OtherMemory } else { reach(page) };
+        let one = Mapping { first: entry, last: entry, page, kind, reach };
         match mappings.last_mut() {
-            Some(run) if continues(run, entry, page, reach) => run.last = entry,
-            _ => mappings.push(Mapping { first: entry, last: entry, page, reach }),
+            Some(run) if continues(run, &one) => run.last = entry,
+            _ => mappings.push(one),
         }
     }
     mappings
 }
 
-fn continues(run: &Mapping, entry: u32, page: u32, reach: Reach) -> bool {
-    let counts_up = reach == Reach::OtherMemory || page == run.page + 4096 * (entry - run.first);
-    entry == run.last + 1 && reach == run.reach && counts_up
+fn continues(run: &Mapping, next: &Mapping) -> bool {
+    let counts_up = next.first == run.last + 1 && next.page == run.page + 4096 * (next.first - run.first);
+    counts_up && next.kind == run.kind && next.reach == run.reach
+}
+
+/// Replays all calls of a list but the last, whose records are given.
+pub fn last_call<'a>(pair: &mut Pair, list: &'a List) -> Result<&'a [u8], Failure> {
+    let mut calls = list.calls()?;
+    let last = calls.pop().unwrap_or(0..0);
+    for call in calls {
+        pair.replay(&list.records[call], |_| Ok(()))?;
+    }
+    Ok(&list.records[last])
 }
 
 #[cfg(test)]
@@ -376,17 +404,25 @@ mod tests {
         table[1] = 0x0010_0001;
         table[2] = 0x0010_1007;
         table[3] = 0x0010_3001;
+        table[4] = 0x0010_4001;
         table[5] = 0x0010_3003;
         table[6] = 0x0070_0005;
         table[8] = 0x0080_0001;
+        table[9] = 0x0080_1003;
+        table[10] = 0x0080_2003;
+        table[11] = 0x0080_4003;
         let reach = |page| if page >= 0x80_0000 { Reach::AboveMemory } else { Reach::Reached };
-        let mapping = |first, last, page, reach| Mapping { first, last, page, reach };
+        let mapping = |first, last, page, kind, reach| Mapping { first, last, page, kind, reach };
         let expected = [
-            mapping(1, 2, 0x10_0000, Reach::Reached),
-            mapping(3, 3, 0x10_3000, Reach::Reached),
-            mapping(5, 6, 0x10_3000, Reach::OtherMemory),
-            mapping(8, 8, 0x80_0000, Reach::AboveMemory),
+            mapping(1, 1, 0x10_0000, 0b00, Reach::Reached),
+            mapping(2, 2, 0x10_1000, 0b11, Reach::Reached),
+            mapping(3, 4, 0x10_3000, 0b00, Reach::Reached),
+            mapping(5, 5, 0x10_3000, 0b01, Reach::OtherMemory),
+            mapping(6, 6, 0x70_0000, 0b10, Reach::OtherMemory),
+            mapping(8, 8, 0x80_0000, 0b00, Reach::AboveMemory),
+            mapping(9, 10, 0x80_1000, 0b01, Reach::OtherMemory),
+            mapping(11, 11, 0x80_4000, 0b01, Reach::OtherMemory),
         ];
-        assert_eq!(mappings(&table, reach), expected);
+        assert_eq!(runs(&table, reach), expected);
     }
 }

@@ -152,11 +152,11 @@ impl<O: Observer, F: Faults> Gmch<'_, O, F> {
         self.ring
     }
 
-    /// Where the parser would fetch the word at this offset of the window, if it would be answered.
-    pub fn fetch_address(&self, offset: u32) -> Option<u32> {
+    /// Where the parser would fetch the word at this offset of the window, or why it would be refused.
+    pub fn fetch_address(&self, offset: u32) -> Result<u32, Refusal> {
         if offset >= self.window_bytes() {
-            return None;
+            return Err(Refusal::OutsideWindow);
         }
-        self.translate(offset).ok()
+        self.translate(offset)
     }
 }

@@ -760,8 +760,8 @@ impl<'m> Generator<'m> {
             let through = self.hub.window_base().wrapping_add(ring.start + offset);
             let management = self.random.one_in(8);
             match self.hub.fetch_address(ring.start + offset) {
-                Some(address) if self.random.one_in(2) => self.emit(Record::write(address, 4, word, management)),
-                Some(address) if self.random.one_in(2) => self.emit(Record::master_write(address, 4, word)),
+                Ok(address) if self.random.one_in(2) => self.emit(Record::write(address, 4, word, management)),
+                Ok(address) if self.random.one_in(2) => self.emit(Record::master_write(address, 4, word)),
                 _ => self.emit(Record::write(through, 4, word, management)),
             }
             offset = (offset + 4) % ring.bytes();

@@ -1,0 +1,160 @@
+//! `state`: what the records of a list leave in the hub.
+//!
+//! The values are those of the reference, which agrees with the proved call in every answer and in every
+//! byte of memory. No byte of protected memory is shown: the ring's words are read where a fetch would be
+//! answered.
+
+mod dump;
+mod registers;
+mod ring;
+
+use super::args::Grammar;
+use super::explain::Tone;
+use super::failure::{Failure, Status};
+use super::load::{List, Memory};
+use super::pair::{Heard, Pair};
+use super::style::Style;
+use super::survey::{self, Mapping, Reach};
+use super::{map, numbers, words};
+use mitrophel::record::RECORD_BYTES;
+use mitrophel::reference::Gmch;
+use mitrophel::Board;
+use std::ffi::OsString;
+use std::io::{self, Write};
+
+/// The hub as a pair's reference has it.
+type Hub<'m> = Gmch<'m, Heard>;
+
+/// Columns that the output keeps to.
+const WIDTH: usize = 80;
+
+pub const GRAMMAR: Grammar = Grammar {
+    command: "state",
+    values: &["--board", "--memory", "--image", "--color"],
+    switches: &["--text", "--binary", "--lspci"],
+    files: 1,
+};
+
+/// `mitrophel state`
+pub fn run(words: &[OsString]) -> Result<Status, Failure> {
+    let options = GRAMMAR.parse(words)?;
+    let board = options.board()?;
+    let style = Style::new(options.colour()?);
+    let form = options.form()?;
+    let source = options.source()?;
+    map::one_input(&options, &source)?;
+    let memory = Memory::given(&options)?;
+    let list = List::read(&source, form)?;
+    let mut pair = Pair::new(board, [memory.fresh(), memory.fresh()]);
+    let last = survey::last_call(&mut pair, &list)?;
+    let text = pair.look(last, |hub| match options.has("--lspci") {
+        true => dump::devices(hub, board),
+        false => whole(hub, board, list.records.len() / RECORD_BYTES, style),
+    })?;
+    let mut out = io::stdout().lock();
+    out.write_all(text.as_bytes()).and_then(|()| out.flush())?;
+    Ok(Status::Done)
+}
+
+/// All sections.
+fn whole(hub: &Hub<'_>, board: Board, records: usize, style: Style) -> String {
+    let after = numbers::counted(records as u64, "record");
+    let title = format!("State: board {board}, {}, after {after}", numbers::bytes(hub.tom().into()));
+    let mut page = Page { style, text: format!("{}\n", style.bold(&title)) };
+    memory(&mut page, hub);
+    registers::configuration(&mut page, hub, board);
+    registers::mapped(&mut page, hub);
+    table(&mut page, hub);
+    ring::words(&mut page, hub);
+    page.heading("Configuration space, as 'lspci -F' reads it");
+    page.text.push_str(dump::devices(hub, board).trim_end());
+    page.text.push('\n');
+    page.text
+}
+
+/// The text as it grows.
+struct Page {
+    style: Style,
+    text: String,
+}
+
+impl Page {
+    fn heading(&mut self, title: &str) {
+        let title = self.style.bold(title);
+        self.text.push_str(&format!("\n{title}\n"));
+    }
+
+    /// What something is, and beside it words that are wrapped.
+    fn row(&mut self, left: &str, words: &str) {
+        self.toned(left, words, Tone::Reached);
+    }
+
+    fn toned(&mut self, left: &str, words: &str, tone: Tone) {
+        let indent = left.chars().count() + 4;
+        let lines = words::wrapped(words, WIDTH - indent);
+        if lines.is_empty() {
+            self.text.push_str(&format!("  {}\n", left.trim_end()));
+        }
+        for (number, line) in lines.iter().enumerate() {
+            let left = if number == 0 { left } else { "" };
+            let line = self.style.tone(tone, line);
+            self.text.push_str(&format!("  {left:<width$}{line}\n", width = indent - 2));
+        }
+    }
+}
+
+/// Where memory ends and what of it is protected.
+fn memory(page: &mut Page, hub: &Hub<'_>) {
+    page.heading("Memory");
+    page.row(&format!("TOM        {:8X}h", hub.tom()), "memory ends");
+    page.row(&format!("U          {:8X}h", hub.usable_top()), "ordinary memory ends");
+    for (first, last) in protected_ranges(hub) {
+        page.row(&format!("protected  {first:8X}h"), &format!("to {last:X}h"));
+    }
+}
+
+/// The first and last address of each protected range.
+fn protected_ranges(hub: &Hub<'_>) -> Vec<(u32, u32)> {
+    let mut ranges = Vec::new();
+    for page in (0..hub.tom()).step_by(4096).filter(|&page| hub.protected(page)) {
+        match ranges.last_mut() {
+            Some((_, last)) if *last == page - 1 => *last = page + 4095,
+            _ => ranges.push((page, page + 4095)),
+        }
+    }
+    ranges
+}
+
+/// The valid entries of the translation table.
+fn table(page: &mut Page, hub: &Hub<'_>) {
+    page.heading(match registers::translation_on(hub) {
+        true => "Translation table",
+        false => "Translation table (off: every access through it is refused 3)",
+    });
+    let mappings = survey::mappings(hub);
+    if mappings.is_empty() {
+        page.row("no valid entry", "");
+    }
+    for mapping in &mappings {
+        let pages = format!("{:X}h-{:X}h", mapping.page, mapping.end());
+        let left = format!("entries {:<12}  {pages:<19}", mapping.entries());
+        let tone = if mapping.reach == Reach::Reached { Tone::Reached } else { Tone::Refused };
+        page.toned(&left, &reached(mapping), tone);
+    }
+}
+
+/// What a mapping reaches, or its refusal.
+fn reached(mapping: &Mapping) -> String {
+    let kind = match mapping.kind {
+        0b01 => "display cache (type 01)",
+        0b10 => "type 10",
+        0b11 => "main memory (type 11)",
+        _ => "main memory",
+    };
+    match mapping.reach {
+        Reach::Reached => kind.to_string(),
+        Reach::OtherMemory => format!("refused 5: {kind}"),
+        Reach::Protected => format!("refused 6: protected {kind}"),
+        Reach::AboveMemory => "refused 7: at or above TOM".to_string(),
+    }
+}

@@ -1,0 +1,129 @@
+//! The registers by name, with their fields in words where document 01 gives them a meaning.
+
+use super::{Hub, Page};
+use crate::cli::explain::Tone;
+use crate::cli::names::{self, Register};
+use crate::cli::{numbers, words};
+use mitrophel::{Board, Refusal};
+
+/// "A user interrupt sets identity bit 1".
+const USER_INTERRUPT: u32 = 1 << 1;
+
+/// CF8h and the configuration registers of both devices.
+pub fn configuration(page: &mut Page, hub: &Hub<'_>, board: Board) {
+    page.heading("Configuration registers");
+    let selected = hub.config_address();
+    page.row(&format!("CF8h  {selected:08X}h"), &words::selection(selected));
+    let shown = hub.smram().graphics_on();
+    for (device, rows) in names::DEVICES.into_iter().enumerate() {
+        let title = match (device, shown) {
+            (0, _) => "Device 0, host bridge",
+            (_, true) => "Device 1, graphics",
+            (_, false) => "Device 1, graphics (hidden while GMS is 00)",
+        };
+        page.heading(title);
+        for row in rows {
+            let value = numbers::data(config_value(hub, device, row), row.bytes);
+            let left = format!("{:02X}h  {:<8}  {value:>9}", row.at, row.name);
+            page.row(&left, &config_words(hub, board, device, row));
+        }
+    }
+}
+
+fn config_value(hub: &Hub<'_>, device: usize, row: &Register) -> u32 {
+    let byte = |at: u32| hub.config_byte(device, at as usize).map_or(0, u32::from);
+    (0..u32::from(row.bytes)).fold(0, |value, number| value | byte(row.at + number) << (8 * number))
+}
+
+fn config_words(hub: &Hub<'_>, board: Board, device: usize, row: &Register) -> String {
+    let memory_on = config_value(hub, device, row) & 2 != 0;
+    match (device, row.name) {
+        (_, "VID") => "Intel".to_string(),
+        (_, "DID") => chip(board).to_string(),
+        (0, "SMRAM") => words::smram(hub.smram()),
+        (0, "MISCC") => format!("window of {}", numbers::bytes(hub.window_bytes().into())),
+        (1, "PCICMD") if hub.graphics_decodes() => "memory enabled: window and registers are on".to_string(),
+        (1, "PCICMD") if memory_on => "memory enabled, but graphics is off".to_string(),
+        (1, "PCICMD") => "memory not enabled: window and registers are off".to_string(),
+        (1, "GMADR") => format!("window at {:X}h", hub.window_base()),
+        (1, "MMADR") => format!("registers at {:X}h", hub.registers_base()),
+        _ => String::new(),
+    }
+}
+
+/// The board's chip as Intel writes it.
+pub fn chip(board: Board) -> &'static str {
+    match board {
+        Board::I82810 => "82810",
+        Board::Dc100 => "82810-DC100",
+    }
+}
+
+/// The memory-mapped registers but the table's.
+pub fn mapped(page: &mut Page, hub: &Hub<'_>) {
+    page.heading("Memory-mapped registers");
+    for (name, at, bytes) in (0x2000..0x20B0).step_by(4).filter_map(names::mapped_at) {
+        let value = register(hub, at);
+        let left = format!("{at:X}h  {name:<14}  {:>9}", numbers::data(value, bytes));
+        let words = mapped_words(hub, &name, value);
+        let tone = if words.contains("refused") { Tone::Refused } else { Tone::Reached };
+        page.toned(&left, &words, tone);
+    }
+    let up = register(hub, 0x20A0) & register(hub, 0x20A4) != 0;
+    page.row("interrupt line", if up { "up: IIR and IER have a bit in common" } else { "down" });
+}
+
+fn mapped_words(hub: &Hub<'_>, name: &str, value: u32) -> String {
+    let ring = hub.ring();
+    let bit = |meaning: &str| match value & USER_INTERRUPT {
+        0 => format!("user interrupt (bit 1) not {meaning}"),
+        _ => format!("user interrupt (bit 1) {meaning}"),
+    };
+    match name {
+        "PGTBL_CTL" if translation_on(hub) => "translation on".to_string(),
+        "PGTBL_CTL" => "translation off".to_string(),
+        "LP_RING_TAIL" => ring_offset(hub, ring.tail),
+        "LP_RING_HEAD" => {
+            let wraps = numbers::counted(ring.wraps().into(), "wrap");
+            format!("{}, {wraps}", ring_offset(hub, ring.head_offset()))
+        }
+        "LP_RING_START" => format!("at graphics offset {:X}h", ring.start),
+        "LP_RING_LENGTH" => {
+            let state = if ring.enabled() { "enabled" } else { "not enabled" };
+            format!("{}, {state}", numbers::bytes(ring.bytes().into()))
+        }
+        "IER" => bit("enabled"),
+        "IIR" => bit("pending"),
+        "IMR" => bit("masked"),
+        "ISR" => "always 0".to_string(),
+        fence => fence.strip_prefix("FENCE").and_then(|number| fence_words(hub, number)).unwrap_or_default(),
+    }
+}
+
+/// An offset of the head or the tail, which must be below the ring's length.
+fn ring_offset(hub: &Hub<'_>, offset: u32) -> String {
+    let bytes = hub.ring().bytes();
+    match offset < bytes {
+        true => format!("offset {offset:X}h"),
+        false => format!("offset {offset:X}h, not below {bytes:X}h: refused {}", Refusal::RingOffset.code()),
+    }
+}
+
+fn fence_words(hub: &Hub<'_>, number: &str) -> Option<String> {
+    let fence = hub.fence(number.parse().ok()?)?;
+    let words = words::fence(fence);
+    Some(match (fence.0 & 1, fence.ill_formed()) {
+        (0, _) => words,
+        (_, true) => format!("valid, {words}: refused {}", Refusal::FenceIllFormed.code()),
+        (_, false) => format!("valid, {words}, tiled"),
+    })
+}
+
+/// PGTBL_CTL bit 0.
+pub fn translation_on(hub: &Hub<'_>) -> bool {
+    register(hub, 0x2020) & 1 != 0
+}
+
+fn register(hub: &Hub<'_>, at: u32) -> u32 {
+    hub.register(at).unwrap_or_default()
+}

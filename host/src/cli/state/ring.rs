@@ -1,0 +1,125 @@
+//! The ring's words from head to tail, each where the parser would fetch it.
+
+use super::{Hub, Page};
+use crate::cli::explain::{self, Tone};
+use crate::cli::numbers;
+use mitrophel::Refusal;
+
+/// Lines at most; what is left is counted.
+const LINES: usize = 32;
+
+/// What a fetch would find.
+#[derive(Clone, Copy, Debug, PartialEq, Eq)]
+enum Fetched {
+    Word {
+        address: u32,
+        word: u32,
+    },
+    /// The table entry tells refusals apart.
+    Refused {
+        refusal: Refusal,
+        entry: u32,
+    },
+}
+
+/// Equal words one after the other.
+#[derive(Clone, Copy, Debug, PartialEq, Eq)]
+struct Run {
+    /// The first word's, in the ring.
+    offset: u32,
+    words: u32,
+    first: Fetched,
+}
+
+impl Run {
+    /// Whether another word, at this offset of the ring, belongs to the run.
+    fn takes(&self, offset: u32, next: Fetched) -> bool {
+        let alike = match (self.first, next) {
+            (Fetched::Word { address, word }, Fetched::Word { address: at, word: other }) => {
+                word == other && at == address + 4 * self.words
+            }
+            (first, next) => first == next,
+        };
+        alike && offset == self.offset + 4 * self.words
+    }
+}
+
+/// The ring and its words.
+pub fn words(page: &mut Page, hub: &Hub<'_>) {
+    let ring = hub.ring();
+    let (head, tail, bytes) = (ring.head_offset(), ring.tail, ring.bytes());
+    let state = if ring.enabled() { "" } else { " (not enabled: a run takes no step)" };
+    if head >= bytes || tail >= bytes {
+        page.heading(&format!("Ring{state}"));
+        return page.toned("every step", &Refusal::RingOffset.to_string(), Tone::Refused);
+    }
+    let count = (tail + bytes - head) % bytes / 4;
+    page.heading(&format!("Ring, {} from head to tail{state}", numbers::counted(count.into(), "word")));
+    if count != 0 {
+        page.row("offset    address   words", "instruction");
+    }
+    let mut shown = 0;
+    for run in runs(hub).take(LINES) {
+        line(page, hub, &run);
+        shown += run.words;
+    }
+    if shown < count {
+        page.row(&format!(".. and {} more words", numbers::grouped((count - shown).into())), "");
+    }
+}
+
+/// The words in runs.
+fn runs<'a>(hub: &'a Hub<'_>) -> impl Iterator<Item = Run> + 'a {
+    let ring = hub.ring();
+    let mut offset = ring.head_offset();
+    std::iter::from_fn(move || {
+        if offset == ring.tail {
+            return None;
+        }
+        let mut run = Run { offset, words: 0, first: fetch(hub, ring.start + offset) };
+        while offset != ring.tail && (run.words == 0 || run.takes(offset, fetch(hub, ring.start + offset))) {
+            run.words += 1;
+            offset = (offset + 4) % ring.bytes();
+        }
+        Some(run)
+    })
+}
+
+/// What the parser would find at a graphics offset.
+fn fetch(hub: &Hub<'_>, offset: u32) -> Fetched {
+    match hub.fetch_address(offset) {
+        Ok(address) => {
+            let bytes = hub.memory().get(address as usize..).and_then(|bytes| bytes.first_chunk());
+            Fetched::Word { address, word: bytes.copied().map_or(0, u32::from_le_bytes) }
+        }
+        Err(refusal @ (Refusal::OutsideWindow | Refusal::TranslationOff)) => Fetched::Refused { refusal, entry: 0 },
+        Err(refusal) => Fetched::Refused { refusal, entry: offset / 4096 },
+    }
+}
+
+fn line(page: &mut Page, hub: &Hub<'_>, run: &Run) {
+    let (address, (tone, text)) = match run.first {
+        Fetched::Word { address, word } => (format!("{address:X}h"), instruction(word)),
+        Fetched::Refused { refusal, .. } => {
+            let why = explain::bad_entry(hub, refusal, hub.ring().start + run.offset);
+            (String::new(), (Tone::Refused, format!("refused {}: {why}", refusal.code())))
+        }
+    };
+    let words = numbers::grouped(run.words.into());
+    page.toned(&format!("{:05X}h  {address:>9}  {words:>6}", run.offset), &text, tone);
+}
+
+/// "Bits 31:29 zero and 28:23: 00h nothing, 02h user interrupt, 04h flush (nothing), else 12; other bits
+/// are not looked at."
+fn instruction(word: u32) -> (Tone, String) {
+    let name = match word >> 23 {
+        0x00 => "noop",
+        0x02 => "user_interrupt",
+        0x04 => "flush",
+        _ => return (Tone::Refused, format!("unknown {word:08X}h: refused {}", Refusal::UnknownInstruction.code())),
+    };
+    match word & 0x007F_FFFF {
+        0 => (Tone::Reached, name.to_string()),
+        _ => (Tone::Reached, format!("{name} ({word:08X}h)")),
+    }
+}

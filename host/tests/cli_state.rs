@@ -1,0 +1,270 @@
+//! `mitrophel state`: registers, table and ring as a list leaves them.
+
+mod cli;
+
+use cli::{examples, folder, run, run_with, word, DONE, INPUT, USAGE};
+use mitrophel::{record, Record};
+use std::fs;
+use std::process::Command;
+
+/// Graphics on, A0000h-BFFFFh and the TSEG for management mode; window, registers and translation on.
+const DESK: &str = "config write dev0.SMRAM 7Ch\nconfig write dev1.GMADR C0000000h\n\
+                    config write dev1.MMADR F0000000h\nconfig write dev1.PCICMD 2\nwrite PGTBL_CTL 1\n";
+
+/// What the command says of a trace.
+fn state(trace: &str) -> String {
+    let run = run_with(&["state", "-"], trace.as_bytes());
+    assert_eq!((run.status, run.errors.as_str()), (DONE, ""), "{trace}");
+    assert!(run.text.lines().all(|line| line.chars().count() <= 80), "{}", run.text);
+    run.text
+}
+
+/// The rows of a section, without their indent.
+fn section<'a>(text: &'a str, heading: &str) -> Vec<&'a str> {
+    let from = text.lines().skip_while(|line| !line.starts_with(heading));
+    let rows: Vec<&str> = from.skip(1).take_while(|line| !line.is_empty()).map(str::trim_start).collect();
+    assert!(!rows.is_empty(), "{heading}: {text}");
+    rows
+}
+
+fn expect_rows(text: &str, heading: &str, rows: &[&str]) {
+    let found = section(text, heading);
+    for row in rows {
+        assert!(found.contains(row), "{row} is not among\n{}", found.join("\n"));
+    }
+}
+
+#[test]
+fn an_empty_list_shows_the_cold_start() {
+    let text = state("");
+    assert!(text.starts_with("State: board 82810, 8 MiB, after 0 records\n"), "{text}");
+    expect_rows(&text, "Memory", &["TOM          800000h  memory ends", "U            800000h  ordinary memory ends"]);
+    expect_rows(&text, "Device 0, host bridge", &["70h  SMRAM           00h  graphics off"]);
+    let hidden = "Device 1, graphics (hidden while GMS is 00)";
+    expect_rows(&text, hidden, &["04h  PCICMD        0004h  memory not enabled: window and registers are off"]);
+    let line = ["20A8h  IMR                 FFFFh  user interrupt (bit 1) masked", "interrupt line  down"];
+    expect_rows(&text, "Memory-mapped registers", &line);
+    assert_eq!(section(&text, "Translation table (off: every access through it is refused 3)"), ["no valid entry"]);
+    assert!(text.contains("\nRing, 0 words from head to tail (not enabled: a run takes no step)\n"), "{text}");
+    assert!(text.contains("\n00:00.0 Host bridge: ") && !text.contains("00:01.0"), "{text}");
+    assert!(run(&["state", "--board", "dc100", "-"]).text.contains("02h  DID           7122h  82810-DC100"));
+}
+
+/// Every register's value is what the proved call answers to a read of it.
+#[test]
+fn every_register_is_as_a_read_finds_it() {
+    let setup = format!(
+        "{DESK}config write dev0.MISCC2 5Ah\nconfig write dev1.SVID 1234h\nconfig write dev1.GMADR C2000008h\n\
+         config write dev0.BUFF_SC 1234h\nwrite FENCE3 03F81771h\nwrite LP_RING_TAIL 12340h\nwrite LP_RING_HEAD A0000104h\n\
+         write LP_RING_START 3FFF000h\nwrite LP_RING_LENGTH 1F001h\nwrite IER 1234h\nwrite IMR 4321h\nread4 700000h\n"
+    );
+    let text = state(&setup);
+    let mut asked = Vec::new();
+    for (device, heading) in ["Device 0, host bridge", "Device 1, graphics"].into_iter().enumerate() {
+        let rows = section(&text, heading);
+        let named = rows.iter().filter(|row| row.as_bytes()[2] == b'h');
+        asked
+            .extend(named.map(|row| (format!("config read dev{device}."), row.split_whitespace().collect::<Vec<_>>())));
+    }
+    let rows = section(&text, "Memory-mapped registers");
+    asked.extend(
+        rows.iter().filter(|row| row.starts_with("20")).map(|row| ("read ".into(), row.split_whitespace().collect())),
+    );
+    assert_eq!(asked.len(), 21 + 25 + 17);
+    let reads: Vec<String> = asked.iter().map(|(read, row)| format!("{read}{}\n", row[1])).collect();
+    let replay = run_with(&["replay", "-"], format!("{setup}{}", reads.concat()).as_bytes());
+    assert_eq!(replay.status, DONE, "{}", replay.errors);
+    let answers: Vec<&str> = replay.text.lines().filter(|line| line.contains(" = ")).collect();
+    assert_eq!(answers.len(), asked.len(), "{}", replay.text);
+    for ((_, row), answer) in asked.iter().zip(answers) {
+        assert!(answer.contains(&format!("{} = {}", row[1], row[2])), "{row:?}: {answer}");
+    }
+    expect_rows(&text, "Device 0", &["A0000h-BFFFFh for management mode; error bit set"]);
+    expect_rows(&text, "Device 1", &["10h  GMADR     C0000008h  window at C0000000h"]);
+}
+
+#[test]
+fn registers_are_told_in_words() {
+    let text = state(&format!(
+        "{DESK}config write dev0.MISCC 1\nwrite FENCE0 21h\nwrite FENCE1 80101h\nwrite FENCE2 721h\n\
+         write LP_RING_LENGTH 1001h\nwrite LP_RING_HEAD 00402004h\nwrite LP_RING_TAIL 10h\n"
+    ));
+    let device = ["72h  MISCC         0001h  window of 32 MiB"];
+    expect_rows(&text, "Device 0", &device);
+    let rows = [
+        "2000h  FENCE0          00000021h  valid, 512 KiB at 0h, pitch 512, tiled",
+        "2004h  FENCE1          00080101h  valid, ill-formed: start 80000h is no",
+        "multiple of its size, 1 MiB: refused 9",
+        "2008h  FENCE2          00000721h  valid, ill-formed: size code 7: refused 9",
+        "200Ch  FENCE3          00000000h  not valid",
+        "2020h  PGTBL_CTL       00000001h  translation on",
+        "2030h  LP_RING_TAIL    00000010h  offset 10h",
+        "2034h  LP_RING_HEAD    00402004h  offset 2004h, not below 2000h: refused 11, 2",
+        "203Ch  LP_RING_LENGTH  00001001h  8 KiB, enabled",
+    ];
+    expect_rows(&text, "Memory-mapped registers", &rows);
+    let refused = "every step  refused 11: ring head or tail offset is not below the ring length";
+    assert_eq!(section(&text, "Ring"), [refused]);
+    let off = state("config write dev0.SMRAM 40h\nconfig write dev1.PCICMD 2\nconfig write dev0.SMRAM 0\n");
+    let row = "04h  PCICMD        0006h  memory enabled, but graphics is off";
+    expect_rows(&off, "Device 1, graphics (hidden while GMS is 00)", &[row]);
+}
+
+#[test]
+fn the_table_is_shown_by_range() {
+    let text = state(&format!(
+        "{DESK}entries 0..15 100000h\nwrite GTT[16] 110007h\nwrite GTT[17] 111007h\nwrite GTT[18] 112003h\n\
+         write GTT[19] 113005h\nentries 20..21 6FF000h\nentries 22..23 7FF000h\nwrite GTT[24] 700000h\n\
+         write GTT[16383] 3FFFF001h\n"
+    ));
+    let rows = [
+        "entries 0..15         100000h-10FFFFh      main memory",
+        "entries 16..17        110000h-111FFFh      main memory (type 11)",
+        "entries 18            112000h-112FFFh      refused 5: display cache (type 01)",
+        "entries 19            113000h-113FFFh      refused 5: type 10",
+        "entries 20            6FF000h-6FFFFFh      main memory",
+        "entries 21            700000h-700FFFh      refused 6: protected main memory",
+        "entries 22            7FF000h-7FFFFFh      refused 6: protected main memory",
+        "entries 23            800000h-800FFFh      refused 7: at or above TOM",
+        "entries 16383         3FFFF000h-3FFFFFFFh  refused 7: at or above TOM",
+    ];
+    assert_eq!(section(&text, "Translation table"), rows);
+}
+
+/// A ring of two pages whose head has passed the tail.
+#[test]
+fn the_rings_words_are_named_from_head_to_tail() {
+    let ring = "entry 0 100000h\nentry 1 A0000h\nwrite LP_RING_LENGTH 1001h\nwrite LP_RING_HEAD FECh\n\
+                write LP_RING_TAIL 20h\nwrite4 100FF0h 01000000h\nwrite4 100FF4h 02000000h\n\
+                write4 100FF8h 02000001h\nwrite4 100FFCh 12345678h\nwrite4 10001Ch 01000000h\n";
+    let text = state(&format!("{DESK}{ring}"));
+    let rows = [
+        "offset    address   words  instruction",
+        "00FECh    100FECh       1  noop",
+        "00FF0h    100FF0h       1  user_interrupt",
+        "00FF4h    100FF4h       1  flush",
+        "00FF8h    100FF8h       1  flush (02000001h)",
+        "00FFCh    100FFCh       1  unknown 12345678h: refused 12",
+        "01000h              1,024  refused 6: entry 1's page A0000h is protected",
+        "00000h    100000h       7  noop",
+        "0001Ch    10001Ch       1  user_interrupt",
+    ];
+    assert_eq!(section(&text, "Ring, 1,037 words from head to tail"), rows);
+    let off = state(&format!("{DESK}{ring}write PGTBL_CTL 0\n"));
+    let found = section(&off, "Ring, 1,037 words from head to tail");
+    assert_eq!(found[1], "00FECh              1,029  refused 3: translation is off");
+    assert_eq!(found[2], "00000h                  8  refused 3: translation is off");
+}
+
+#[test]
+fn a_long_ring_is_cut() {
+    let ring = "entries 0..511 100000h\nwrite LP_RING_LENGTH 1FF001h\nwrite LP_RING_TAIL 1FFFF8h\n";
+    let words: String = (0..40).map(|word| format!("write4 {:X}h {word}\n", 0x10_0000 + 4 * word)).collect();
+    let text = state(&format!("{DESK}{ring}{words}"));
+    let found = section(&text, "Ring, 524,286 words from head to tail");
+    assert_eq!(found.len(), 34);
+    assert_eq!(found[32], "0007Ch    10007Ch       1  noop (0000001Fh)");
+    assert_eq!(found[33], ".. and 524,254 more words");
+}
+
+/// Neither the key nor anything that depends on it is shown, wherever ring and table are aimed.
+#[test]
+fn nothing_depends_on_the_key() {
+    let text = |key: &str| {
+        let keys: String =
+            ["A0000h", "A0004h", "A1000h", "700000h", "7FFFF8h"].map(|at| format!("smm write4 {at} {key}\n")).concat();
+        let ring = "entries 0..1 A0000h\nentry 2 700000h\nentry 3 100000h\nentry 4 7FF000h\nwrite LP_RING_TAIL 4FF8h\n\
+                    write LP_RING_LENGTH 4001h\nrun 10\nconfig write dev0.SMRAM 7Eh\n";
+        state(&format!("{DESK}{keys}{ring}"))
+    };
+    let first = text("4B455921h");
+    assert_eq!(first, text("01000000h"));
+    assert!(!first.contains("4B455921"), "{first}");
+    expect_rows(&first, "Ring", &["03000h    100000h   1,024  noop"]);
+}
+
+/// The bytes of each device of a dump.
+fn dumped(text: &str) -> Vec<(String, Vec<u8>)> {
+    let mut devices: Vec<(String, Vec<u8>)> = Vec::new();
+    for line in text.lines().filter(|line| !line.is_empty()) {
+        match line.split_once(": ") {
+            Some((at, bytes)) if at.len() == 2 => {
+                let device = &mut devices.last_mut().expect("a device's line first").1;
+                assert_eq!(usize::from_str_radix(at, 16), Ok(device.len()), "{line}");
+                device.extend(bytes.split(' ').map(|byte| u8::from_str_radix(byte, 16).expect("a byte")));
+            }
+            _ => devices.push((line.to_string(), Vec::new())),
+        }
+    }
+    devices
+}
+
+#[test]
+fn configuration_space_is_dumped_for_lspci() {
+    let desk = word(&examples().join("desk.trace"));
+    let alone = run(&["state", "--lspci", &desk]);
+    assert_eq!((alone.status, alone.errors.as_str()), (DONE, ""));
+    let devices = dumped(&alone.text);
+    let names: Vec<&str> = devices.iter().map(|(name, _)| name.as_str()).collect();
+    assert_eq!(
+        names,
+        ["00:00.0 Host bridge: Intel Corporation 82810", "00:01.0 VGA compatible controller: Intel Corporation 82810"]
+    );
+    assert!(devices.iter().all(|(_, bytes)| bytes.len() == 256));
+    assert_eq!(devices[0].1[..4], [0x86, 0x80, 0x20, 0x71]);
+    assert_eq!(devices[0].1[0x70], 0xBF);
+    assert_eq!(devices[1].1[0x10..0x18], [0x08, 0, 0, 0xC0, 0, 0, 0, 0xF0]);
+    assert!(run(&["state", &desk]).text.ends_with(&format!("\n{}\n", alone.text.trim_end())));
+    assert_eq!(dumped(&run(&["state", "--lspci", "-"]).text).len(), 1);
+}
+
+/// `lspci` reads the dump without complaint; where there is none, there is nothing to test with.
+#[test]
+fn lspci_reads_the_dump() {
+    let folder = folder("lspci");
+    let (dump, whole) = (folder.join("desk.pci"), folder.join("desk.state"));
+    let desk = word(&examples().join("desk.trace"));
+    fs::write(&dump, run(&["state", "--lspci", &desk]).text).expect("a dump");
+    fs::write(&whole, run(&["state", &desk]).text).expect("a state");
+    for file in [dump, whole] {
+        let Ok(output) = Command::new("lspci").arg("-F").arg(&file).args(["-n", "-v"]).output() else {
+            println!("no 'lspci' here: nothing to test with");
+            return;
+        };
+        let text = String::from_utf8_lossy(&output.stdout).into_owned();
+        assert!(output.status.success(), "{}", String::from_utf8_lossy(&output.stderr));
+        assert!(text.contains("00:00.0 0600: 8086:7120 (rev 02)"), "{text}");
+        assert!(text.contains("00:01.0 0300: 8086:7121"), "{text}");
+        assert!(text.contains("Memory at c0000000 (32-bit, prefetchable)"), "{text}");
+        assert!(text.contains("Memory at f0000000 (32-bit, non-prefetchable)"), "{text}");
+    }
+}
+
+/// A list longer than a call, whose last call is as long as a call may be, on the memory of all.
+#[test]
+fn a_long_list_is_replayed_in_calls() {
+    let setup = run_with(&["asm", "-"], format!("{DESK}entry 0 100000h\nwrite LP_RING_LENGTH 1\n").as_bytes()).out;
+    let mut records = vec![Record::write(0x10_0000, 4, 0x0100_0000, false), Record::reset()];
+    records.extend(record::decode(&setup));
+    records.push(Record::write(0xF000_2030, 4, 8, false));
+    records.resize(65_536, Record::read(0x1000, 4, false));
+    let run = run_with(&["state", "-"], &record::encode(&records));
+    assert_eq!((run.status, run.errors.as_str()), (DONE, ""));
+    assert!(run.text.starts_with("State: board 82810, 8 MiB, after 65,536 records\n"), "{}", run.text);
+    expect_rows(&run.text, "Ring, 2 words", &["00000h    100000h       1  user_interrupt"]);
+    records[1] = Record::read(0x1000, 4, false);
+    assert_eq!(run_with(&["state", "-"], &record::encode(&records)).status, INPUT);
+}
+
+#[test]
+fn wrong_words_are_told() {
+    for (words, part) in [
+        (&["state"][..], "expected a file ('-' is standard input)"),
+        (&["state", "--image", "-", "-"], "FILE and --image cannot both be standard input"),
+        (&["state", "--lspci=1", "-"], "--lspci takes no value"),
+    ] {
+        let run = run(words);
+        assert_eq!(run.status, USAGE);
+        assert!(run.errors.contains(part), "{}", run.errors);
+    }
+}
