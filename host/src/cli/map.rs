@@ -5,11 +5,10 @@ use super::failure::{Failure, Status};
 use super::files::{self, Sink, Source};
 use super::load::{List, Memory};
 use super::style::Style;
-use super::survey::{Cell, Class, Map, Mapping, Reach, COLUMNS};
+use super::survey::{config_write, Cell, Class, Map, Mapping, Reach, COLUMNS};
 use super::{names, numbers, svg, words};
 use mitrophel::record;
 use mitrophel::reference::Smram;
-use mitrophel::Record;
 use std::ffi::OsString;
 use std::io::{self, Write};
 
@@ -100,7 +99,7 @@ fn described(options: &Options) -> Result<List, Failure> {
     if !Smram(smram as u8).graphics_on() && window.or(registers).is_some() {
         return Err(options.usage("--window and --registers act only while GMS (SMRAM bits 7:6) is not 00"));
     }
-    let mut records = config_write(0, 0x72, 1, u32::from(small));
+    let mut records = config_write(0, 0x72, 1, u32::from(small)).to_vec();
     records.extend(config_write(0, 0x70, 1, smram));
     if let Some(base) = window {
         records.extend(config_write(1, 0x10, 4, base));
@@ -112,11 +111,6 @@ fn described(options: &Options) -> Result<List, Failure> {
         records.extend(config_write(1, 0x04, 1, 0x06));
     }
     List::binary(String::new(), record::encode(&records))
-}
-
-fn config_write(device: usize, at: u32, width: u8, data: u32) -> Vec<Record> {
-    let select = Record::io_write(names::CONFIG_ADDRESS, 4, names::selection(device, at));
-    vec![select, Record::io_write(names::CONFIG_DATA + at % 4, width, data)]
 }
 
 /// An option's address, which must be a multiple of the size of what stands there.

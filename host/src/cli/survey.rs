@@ -1,7 +1,9 @@
 //! Where each address goes, found by asking.
 //!
 //! At each address where something may change, the proved call and the reference are given a read by the
-//! processor, by management mode (data and code) and by a hub master.
+//! processor, by management mode (data and code) and by a hub master. What graphics reaches is asked in a
+//! call of its own: a table entry names each page, and the processor reads through the window. The
+//! reference, which must give the same answers, names the rules.
 
 use super::failure::Failure;
 use super::follow::{Follower, Ground};
@@ -9,8 +11,8 @@ use super::load::{List, Memory};
 use super::pair::{Pair, Step};
 use super::{names, numbers, words};
 use mitrophel::record::{self, MAX_RECORDS, RECORD_BYTES};
-use mitrophel::reference::{Gmch, Observer, Rule};
-use mitrophel::{Board, Record};
+use mitrophel::reference::{Gmch, Observer, Rule, Smram};
+use mitrophel::{Board, Record, Refusal};
 
 /// Where one kind of access goes.
 #[derive(Clone, Debug, PartialEq, Eq)]
@@ -93,7 +95,7 @@ pub struct Map {
 /// Where the map may change, from 0 up.
 fn edges(hub: &Gmch<'_>, tom: u32) -> Vec<u32> {
     let (tseg, taken) = (hub.smram().tseg_bytes(), hub.smram().taken_bytes());
-    let mut edges: Vec<u64> = [0, 0xA_0000, 0xC_0000, 0x10_0000, 0x4000_0000, 0xFEEA_0000, 0xFEEC_0000].to_vec();
+    let mut edges: Vec<u64> = [0, 0xA_0000, 0xC_0000, 0x10_0000, PAST_PAGES.into(), 0xFEEA_0000, 0xFEEC_0000].to_vec();
     edges.extend([tom - tseg - taken, tom - tseg, tom].map(u64::from));
     if hub.graphics_decodes() {
         let (registers, window) = (u64::from(hub.registers_base()), u64::from(hub.window_base()));
@@ -115,28 +117,73 @@ fn probes(edge: u32) -> [Record; 4] {
     ]
 }
 
+/// What is asked in the last call of a list: SMRAM, and the columns but the last.
+fn questions(edges: &[u32]) -> Vec<Record> {
+    let select = Record::io_write(names::CONFIG_ADDRESS, 4, names::selection(0, 0x70));
+    let smram = [select, Record::io_read(names::CONFIG_DATA, 1)];
+    smram.into_iter().chain(edges.iter().flat_map(|edge| probes(*edge))).collect()
+}
+
+/// How many of the questions are about SMRAM.
+const SMRAM_QUESTIONS: usize = 2;
+
+/// A write of a configuration register.
+pub fn config_write(device: usize, at: u32, width: u8, data: u32) -> [Record; 2] {
+    let select = Record::io_write(names::CONFIG_ADDRESS, 4, names::selection(device, at));
+    [select, Record::io_write(names::CONFIG_DATA + at % 4, width, data)]
+}
+
+/// Pages from here on are named by no entry: "page 29:12".
+const PAST_PAGES: u32 = 0x4000_0000;
+
+/// What graphics meets at each page that an entry can name: code 0, 6 or 7.
+///
+/// Pages are protected or not by SMRAM and the memory's length alone, and locked or not. So it is asked on
+/// a board that is like the one in force in these, with the window and the registers above all memory; and
+/// with graphics on, which protects nothing and without which there is no window.
+fn graphics_codes(pair: &mut Pair, smram: u8, pages: &[u32]) -> Result<Vec<u8>, Failure> {
+    const WINDOW: u32 = 0xC000_0000;
+    const REGISTERS: u32 = 0xF000_0000;
+    let on = if Smram(smram).graphics_on() { smram } else { smram | 0x40 };
+    let writes = [(0, 0x70, 1, on.into()), (1, 0x10, 4, WINDOW), (1, 0x14, 4, REGISTERS), (1, 0x04, 1, 0x06)];
+    let mut records: Vec<Record> =
+        writes.into_iter().flat_map(|(device, at, width, data)| config_write(device, at, width, data)).collect();
+    records.push(Record::write(REGISTERS + 0x2020, 4, 1, false));
+    let first = records.len();
+    for page in pages {
+        records.push(Record::write(REGISTERS + names::entry_offset(0), 4, page | 1, false));
+        records.push(Record::read(WINDOW, 4, false));
+    }
+    let answers = pair.replay(&record::encode(&records), |_| Ok(()))?;
+    Ok(record::decode_answers(&answers).skip(first + 1).step_by(2).map(|answer| answer.code).collect())
+}
+
 impl Map {
     /// The map in force after the list's records.
     pub fn after(board: Board, memory: &Memory, list: &List) -> Result<Map, Failure> {
         let mut pair = Pair::new(board, [memory.fresh(), memory.fresh()]);
         let setup = last_call(&mut pair, list)?;
         let edges = edges_after(setup, memory.length() as u32);
-        let mut records = setup.to_vec();
-        records.extend(record::encode(&edges.iter().flat_map(|edge| probes(*edge)).collect::<Vec<_>>()));
+        let questions = questions(&edges);
+        let records = [setup, &record::encode(&questions)].concat();
         if records.len() / RECORD_BYTES > MAX_RECORDS {
             let place = list.place(list.records.len().saturating_sub(RECORD_BYTES) / RECORD_BYTES);
-            let room = MAX_RECORDS - 4 * edges.len();
+            let room = MAX_RECORDS - questions.len();
             return Err(Failure::input(format!(
                 "{place}: the map asks {} questions in the last call: expected at most {} records there",
-                4 * edges.len(),
+                questions.len(),
                 numbers::grouped(room as u64)
             )));
         }
-        let mut asked = Asked { probes: setup.len() / RECORD_BYTES, edges, ..Asked::default() };
-        pair.replay(&records, |step| {
+        let first = setup.len() / RECORD_BYTES;
+        let mut asked = Asked { probes: first + SMRAM_QUESTIONS, edges, ..Asked::default() };
+        let answers = pair.replay(&records, |step| {
             asked.note(step, board);
             Ok(())
         })?;
+        let smram = record::decode_answers(&answers).nth(first + 1).unwrap_or_default().value as u8;
+        let pages: Vec<u32> = asked.edges.iter().copied().filter(|edge| *edge < PAST_PAGES).collect();
+        asked.graphics = graphics_codes(&mut pair, smram, &pages)?;
         Ok(asked.finish())
     }
 }
@@ -156,8 +203,8 @@ struct Asked {
     /// Records before the first probe.
     probes: usize,
     rules: Vec<Option<Rule>>,
-    protected: Vec<bool>,
-    tom: u32,
+    /// What graphics meets at the edges that are pages.
+    graphics: Vec<u8>,
     usable_top: u32,
     title: String,
     lines: Vec<String>,
@@ -171,16 +218,12 @@ impl Asked {
         if number == 0 {
             self.describe(step, board);
         }
-        if number.is_multiple_of(4) {
-            self.protected.push(step.hub.protected(step.record.address));
-        }
         self.rules.push(step.rule);
     }
 
     fn describe(&mut self, step: &Step<'_, '_>, board: Board) {
         let hub = step.hub;
         let memory = numbers::bytes(hub.tom().into());
-        self.tom = hub.tom();
         self.usable_top = hub.usable_top();
         self.title = format!("Address map: board {board}, {memory}, SMRAM {:02X}h", hub.smram().0);
         self.lines.push(format!("SMRAM: {}.", words::smram(hub.smram())));
@@ -215,21 +258,11 @@ impl Asked {
 
     fn row(&self, at: usize, first: u32, last: u32) -> Option<Row> {
         let rules: Vec<Rule> = self.rules.get(4 * at..4 * at + 4)?.iter().flatten().copied().collect();
-        let [processor, data, code, master] = rules[..] else { return None };
-        let protected = *self.protected.get(at)?;
-        let cells = [cell(processor), management(data, code), cell(master), self.graphics(first, protected)];
+        let [processor, data, code_read, master] = rules[..] else { return None };
+        let code = self.graphics.get(at).copied();
+        let cells = [cell(processor), management(data, code_read), cell(master), graphics(code)];
+        let protected = code == Some(Refusal::PageProtected.code());
         Some(Row { first, last, cells, protected, name: self.name(first, processor) })
-    }
-
-    /// What an entry that names a page there reaches.
-    fn graphics(&self, first: u32, protected: bool) -> Cell {
-        let (class, text) = match first {
-            0x4000_0000.. => (Class::Nothing, "-"),
-            _ if first >= self.tom => (Class::Refused, "refused 7"),
-            _ if protected => (Class::Refused, "refused 6"),
-            _ => (Class::Memory, "memory"),
-        };
-        Cell { class, text: text.to_string() }
     }
 
     fn name(&self, first: u32, processor: Rule) -> &'static str {
@@ -271,6 +304,15 @@ fn cell(rule: Rule) -> Cell {
         Rule::ConfigAddress | Rule::DeviceZero | Rule::DeviceOne | Rule::OtherPort => (Class::Nothing, "port"),
     };
     Cell { class, text: text.to_string() }
+}
+
+/// What an entry that names a page meets; none can where there is no code.
+fn graphics(code: Option<u8>) -> Cell {
+    match code {
+        None => Cell { class: Class::Nothing, text: "-".to_string() },
+        Some(0) => Cell { class: Class::Memory, text: "memory".to_string() },
+        Some(code) => Cell { class: Class::Refused, text: format!("refused {code}") },
+    }
 }
 
 /// Management mode's data and code reads in one cell.
@@ -332,7 +374,9 @@ pub fn last_call<'a>(pair: &mut Pair, list: &'a List) -> Result<&'a [u8], Failur
 #[cfg(test)]
 mod tests {
     use super::*;
+    use mitrophel::call::gmch_replay;
     use mitrophel::reference::{Observer, TABLE_WORDS};
+    use mitrophel::{Answer, Target};
 
     #[derive(Default)]
     struct Heard(Option<Rule>);
@@ -344,34 +388,85 @@ mod tests {
     }
 
     fn setup(smram: u32, window: u32, registers: u32, small: u32) -> Vec<Record> {
-        let writes = [(0, 0x72, small), (0, 0x70, smram), (1, 0x10, window), (1, 0x14, registers), (1, 0x04, 2)];
-        let mut records = Vec::new();
-        for (device, at, data) in writes {
-            records.push(Record::io_write(0xCF8, 4, names::selection(device, at)));
-            records.push(Record::io_write(0xCFC + at % 4, if at == 0x10 || at == 0x14 { 4 } else { 1 }, data));
+        let writes =
+            [(0, 0x72, 1, small), (0, 0x70, 1, smram), (1, 0x10, 4, window), (1, 0x14, 4, registers), (1, 0x04, 1, 2)];
+        writes.into_iter().flat_map(|(device, at, width, data)| config_write(device, at, width, data)).collect()
+    }
+
+    /// The proved call's answers to the last records of a list.
+    fn asked(memory: &mut [u8], list: &[Record], last: usize) -> Vec<Answer> {
+        let records = record::encode(list);
+        let mut answers = vec![0; records.len()];
+        assert_eq!(gmch_replay(Board::I82810.number(), memory, &records, &mut answers), 0);
+        record::decode_answers(&answers).skip(list.len() - last).collect()
+    }
+
+    /// What the proved call does with a read after these records: a cell's words without the rule.
+    fn goes(memory: &mut [u8], setup: &[Record], probe: Record) -> &'static str {
+        let list = [setup, &[probe], &config_write(0, 0x70, 4, 0)[..1], &[Record::io_read(0xCFC, 1)]].concat();
+        let [answer, _, smram] = asked(memory, &list, 3)[..] else { panic!("three answers") };
+        match (answer.refusal(), answer.target()) {
+            (None, Some(Target::Memory)) if answer.address == probe.address => "memory",
+            (None, Some(Target::Memory)) if answer.address + 0xFEE0_0000 == probe.address => "A0000h up",
+            (None, Some(Target::Hub)) if smram.value & 1 != 0 => "hub, error",
+            (None, Some(Target::Hub)) => "hub",
+            (None, Some(Target::Vga)) => "VGA",
+            (None, Some(Target::MemoryMapped)) => "registers",
+            // The setups leave translation off.
+            (Some(Refusal::TranslationOff), _) => "window",
+            other => panic!("{other:?}"),
         }
-        records
+    }
+
+    /// What the proved call does with an entry that names a page: by a fetch of the parser, which needs no
+    /// window of the board's own.
+    fn met(memory: &mut [u8], smram: u32, page: u32) -> &'static str {
+        let on = if smram & 0xC0 == 0 { smram | 0xC0 } else { smram };
+        let mut list = setup(on, 0x8000_0000, 0x4000_0000, 1);
+        let registers = [(0x2020, 1), (0x1_0010, page | 1), (0x2038, 0x4000), (0x203C, 1), (0x2030, 8)];
+        list.extend(registers.map(|(at, data)| Record::write(0x4000_0000 + at, 4, data, false)));
+        list.push(Record::run(1));
+        match asked(memory, &list, 1)[0] {
+            Answer { code: 0, count: 1, .. } => "memory",
+            Answer { code: 6, .. } => "refused 6",
+            Answer { code: 7, .. } => "refused 7",
+            other => panic!("{other}"),
+        }
+    }
+
+    /// Each column at this address, and the mark, as the proved call has them.
+    fn check_proved(row: &Row, memory: &mut [u8], setup: &[Record], smram: u32, address: u32) {
+        let [processor, data, code, master] = probes(address).map(|probe| goes(memory, setup, probe));
+        let management = if data == code { data } else { "code memory" };
+        let found = row.cells.each_ref().map(|cell| cell.text.split(" (").next().unwrap_or_default());
+        assert_eq!(found[..3], [processor, management, master], "{address:X}h, SMRAM {smram:X}h");
+        let graphics = if address < 0x4000_0000 { met(memory, smram, address & !0xFFF) } else { "-" };
+        assert_eq!(found[3], graphics, "{address:X}h, SMRAM {smram:X}h");
+        assert_eq!(row.protected, graphics == "refused 6", "{address:X}h, SMRAM {smram:X}h");
     }
 
     /// Every SMRAM, at bases below, around and above memory: each row is right at its ends, next to them
-    /// and inside, and the rows cover all addresses.
+    /// and inside, by the reference and by the proved call, and the rows cover all addresses.
     #[test]
     fn every_address_of_a_row_goes_where_the_row_says() {
         let bases = [(0, 0), (0xC000_0000, 0xF000_0000), (0xFC00_0000, 0xFFF8_0000), (0, 0x0200_0000), (0, 0x10_0000)];
         let memory = Memory::zeros(8 << 20);
         let mut asked = 0;
         for smram in (0..=0xFF).step_by(4) {
+            // Every other one locked.
+            let smram = smram | smram >> 1 & 2;
             for (number, (window, registers)) in bases.into_iter().enumerate().skip(smram as usize / 4 % 2).step_by(2) {
                 let records = setup(smram, window, registers, number as u32 & 1);
                 let list = List::binary(String::new(), record::encode(&records)).expect("whole records");
                 let map = Map::after(Board::I82810, &memory, &list).expect("a map");
-                asked += check(&map, &memory, &records);
+                asked += check(&map, &memory, &records, smram);
             }
         }
         assert!(asked > 5_000, "{asked}");
     }
 
-    fn check(map: &Map, memory: &Memory, setup: &[Record]) -> usize {
+    fn check(map: &Map, memory: &Memory, setup: &[Record], smram: u32) -> usize {
+        let mut lent = memory.fresh();
         let (mut bytes, mut table) = (memory.fresh(), Box::new([0; TABLE_WORDS]));
         let mut hub = Gmch::observed(Board::I82810, &mut bytes, &mut table, Heard::default()).expect("a board");
         for record in setup {
@@ -391,6 +486,7 @@ mod tests {
                 let found = [cell(rules[0]), management(rules[1], rules[2]), cell(rules[3])];
                 assert_eq!(found, row.cells[..3], "{address:X}h");
                 assert_eq!(hub.protected(address), row.protected, "{address:X}h");
+                check_proved(row, &mut lent, setup, smram, address);
                 asked += 1;
             }
         }
