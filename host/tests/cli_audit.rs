@@ -2,7 +2,7 @@
 
 mod cli;
 
-use cli::{examples, folder, run, run_with, word, Run, DENIED, DONE, FILE, INPUT, USAGE};
+use cli::{examples, folder, run, run_with, word, Run, DONE, FILE, INPUT, UNMET, USAGE};
 use mitrophel::{record, Record};
 use std::fs;
 use std::path::Path;
@@ -53,7 +53,7 @@ fn an_audit_starts_every_file_with_the_image() {
         assert_eq!(zeros.status, DONE, "{}", zeros.errors);
         assert!(zeros.text.starts_with("2 files, 30 records in 2 calls, 16 parser steps\n"), "{}", zeros.text);
         let imaged = audit(&[compare, &["--memory", "8M", "--image", &image, &ring, &ring]].concat());
-        assert_eq!(imaged.status, DENIED, "{}", imaged.errors);
+        assert_eq!(imaged.status, UNMET, "{}", imaged.errors);
         assert!(imaged.text.starts_with("2 files, 30 records in 2 calls, 14 parser steps\n"), "{}", imaged.text);
         assert!(imaged.text.contains("12  instruction                             2  denied"), "{}", imaged.text);
     }
@@ -78,7 +78,7 @@ fn the_calls_of_a_long_list_share_its_memory() {
         assert_eq!(apart.status, DONE, "{}", apart.errors);
         assert!(apart.text.starts_with("2 files, 130,017 records in 2 calls, 8 parser steps\n"), "{}", apart.text);
         let joined = audit(&[compare, &[&both]].concat());
-        assert_eq!(joined.status, DENIED, "{}", joined.errors);
+        assert_eq!(joined.status, UNMET, "{}", joined.errors);
         assert!(joined.text.starts_with("1 file, 130,017 records in 2 calls, 7 parser steps\n"), "{}", joined.text);
     }
 }
@@ -111,7 +111,7 @@ fn jobs_change_nothing_of_what_is_told() {
         (run.status, run.text, run.errors)
     };
     let one = told(&["--jobs", "1"]);
-    assert_eq!(one.0, DENIED);
+    assert_eq!(one.0, UNMET);
     assert!(one.1.starts_with("17 files, "), "{}", one.1);
     assert!(one.2.lines().count() > 20, "{}", one.2);
     assert!(one.2.contains("mitrophel: standard input:1: refused 2"), "{}", one.2);

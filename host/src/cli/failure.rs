@@ -49,8 +49,8 @@ impl Failure {
     }
 
     /// Errors of a text trace, which start with `FILE:LINE:COLUMN:`, where editors look for it.
-    pub fn trace(report: String) -> Failure {
-        Failure { bare: true, ..Failure::input(report) }
+    pub fn trace(status: Status, report: String) -> Failure {
+        Failure { bare: true, ..Failure::new(status, report) }
     }
 
     /// No command was given: the help that was not asked for.

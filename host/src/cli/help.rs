@@ -75,9 +75,9 @@ content; '-' is standard input.
                     whatever its content
   --color WHEN      auto (default), always or never
 
-Kinds for --only: refused, answered; a refusal's code or name, as for 'audit
---deny'; memory, register, hub, vga, mmio, by where it went; window, error,
-interrupt; io, read, fetch, write, smm, master, run, reset.
+Kinds for --only: refused, answered; a refusal's code or name as 'mitrophel
+explain' lists them; memory, register, hub, vga, mmio, by where it went;
+window, error, interrupt; io, read, fetch, write, smm, master, run, reset.
 
 The reasons come from a second replay, in ordinary Rust, beside the proved
 call. Should the two ever disagree, the difference is told, nothing is written,

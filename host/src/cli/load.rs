@@ -75,15 +75,10 @@ impl List {
     /// A text trace.
     pub fn text(source: &Source, bytes: &[u8]) -> Result<List, Failure> {
         let text = String::from_utf8_lossy(bytes);
-        let mut unread = false;
-        let include = &mut |path: &str| included(source, path).inspect_err(|_| unread = true);
-        let assembled = trace::assemble_with(&source.name(), &text, include).map_err(|errors| {
-            let mut failure = Failure::trace(errors.to_string());
-            if unread {
-                failure.status = Status::File;
-            }
-            failure
-        })?;
+        let mut status = Status::Input;
+        let include = &mut |path: &str| included(source, path, &mut status);
+        let assembled = trace::assemble_with(&source.name(), &text, include);
+        let assembled = assembled.map_err(|errors| Failure::trace(status, errors.to_string()))?;
         let Assembled { records, places, files, expectations, warnings } = assembled;
         warnings.iter().for_each(|warning| complain(&warning.to_string()));
         Ok(List { files, records, places, expectations })
@@ -148,8 +143,9 @@ impl List {
     }
 }
 
-/// The text of a file that a trace includes. The path starts with the trace's folder as messages show it.
-fn included(trace: &Source, path: &str) -> io::Result<String> {
+/// The text of a file that a trace includes, or the status to end with. The path starts with the trace's folder
+/// as messages show it.
+fn included(trace: &Source, path: &str, status: &mut Status) -> io::Result<String> {
     let folder = match trace {
         Source::Standard => Path::new(""),
         Source::File(own) => own.parent().unwrap_or(Path::new("")),
@@ -157,6 +153,7 @@ fn included(trace: &Source, path: &str) -> io::Result<String> {
     let path = Path::new(path).strip_prefix(shown(folder)).map_or(path.into(), |inside| folder.join(inside));
     let source = Source::File(path);
     let bytes = source.read().map_err(|failure| {
+        *status = failure.status;
         let own = format!("{}: ", source.name());
         io::Error::other(failure.message.strip_prefix(&own).unwrap_or(&failure.message).to_string())
     })?;
