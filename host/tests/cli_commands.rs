@@ -16,7 +16,8 @@ const WHOLE_ANSWERS: [u8; 32] = [
     0x00, 0x02, 0x00, 0x00, 0x00, 0x00, 0x00, 0x00, 0x86, 0x80, 0x20, 0x71, 0x00, 0x00, 0x00, 0x00,
 ];
 
-const COMMANDS: [&str; 9] = ["replay", "asm", "disasm", "state", "map", "audit", "demo", "explain", "completion"];
+const COMMANDS: [&str; 10] =
+    ["replay", "asm", "disasm", "state", "map", "audit", "compare", "demo", "explain", "completion"];
 
 #[test]
 fn every_command_has_help_with_an_example() {

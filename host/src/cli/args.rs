@@ -30,7 +30,7 @@ pub struct Options {
 }
 
 /// Options that may be given more than once.
-pub const REPEATED: &[&str] = &["--deny", "--only"];
+pub const REPEATED: &[&str] = &["--deny", "--key", "--only"];
 
 /// The values of `--color`.
 pub const COLOURS: [(&str, Colour); 3] = [("auto", Colour::Auto), ("always", Colour::Always), ("never", Colour::Never)];

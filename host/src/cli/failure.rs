@@ -40,6 +40,10 @@ impl Failure {
         Failure { status, message, bare: false }
     }
 
+    pub fn unmet(message: impl Into<String>) -> Failure {
+        Failure::new(Status::Unmet, message.into())
+    }
+
     pub fn usage(message: impl Into<String>) -> Failure {
         Failure::new(Status::Usage, message.into())
     }

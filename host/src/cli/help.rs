@@ -8,6 +8,7 @@ pub const COMMANDS: &[(&str, &str, &str)] = &[
     ("state", "show what records leave in the hub's registers", STATE),
     ("map", "show where each address goes", MAP),
     ("audit", "replay many lists and count the refusals", AUDIT),
+    ("compare", "replay with two keys and show what differs", COMPARE),
     ("demo", "a desk, its lobby picture and three earlier faults", DEMO),
     ("explain", "tell when a code is given, with an example that runs", EXPLAIN),
     ("completion", "print a shell's completion script", COMPLETION),
@@ -242,6 +243,35 @@ was seen.
 
 Example:
   mitrophel audit --deny protected,layout night/*.rec
+";
+
+const COMPARE: &str = "\
+Usage: mitrophel compare [OPTION].. FILE
+Replay the trace or records of FILE ('-': standard input) twice, each time with
+another key in the memory that is protected once SMRAM's lock is set, and show
+side by side what differs. After the lock only values that management mode
+reads from that memory may differ. If anything else does, an answer, a
+register, a table word, an unprotected byte, it is named, and the exit status
+is 1.
+
+  --key KEY         a file of 1 to 65,536 bytes, or 'random' (./random is a
+                    file); give it twice, what is not given is random
+  --show-protected  print the values too; they are shown as dots otherwise
+  --board NAME      82810 (default) or dc100
+  --memory SIZE     main memory: a multiple of 8M, 8M to 512M
+                    (default: the image's length, else 8M)
+  --image FILE      memory at the start, but for the protected bytes
+  --text, --binary  take FILE for a text trace, or for the binary form
+  --color WHEN      auto (default), always or never
+
+The key stands in all protected bytes from the start, over and over, and every
+management-mode write into them carries its next bytes instead of the trace's
+data. Before the lock those bytes may still be open to all: what differs there
+is shown and is no failure. A reset ends the comparison. A trace that never
+sets the lock is refused.
+
+Example: is there a way from my key to the picture?
+  mitrophel compare --key key.bin --key random desk.trace
 ";
 
 const DEMO: &str = "\

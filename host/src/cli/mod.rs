@@ -3,6 +3,7 @@
 mod args;
 mod audit;
 mod codes;
+mod compare;
 mod completion;
 mod convert;
 mod demo;
@@ -45,6 +46,7 @@ const COMMANDS: &[(Grammar, Run)] = &[
     (state::GRAMMAR, state::run),
     (map::GRAMMAR, map::run),
     (audit::GRAMMAR, audit::run),
+    (compare::GRAMMAR, compare::run),
     (demo::GRAMMAR, demo::run),
     (codes::GRAMMAR, codes::run),
     (completion::GRAMMAR, completion::run),

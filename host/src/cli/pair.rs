@@ -58,6 +58,8 @@ pub struct Pair {
     call: Call,
     proved: Vec<u8>,
     beside: Vec<u8>,
+    /// A disagreement is told without values.
+    hidden: bool,
 }
 
 impl Pair {
@@ -69,7 +71,12 @@ impl Pair {
     /// The same, with this call in the proved one's place.
     pub fn by(board: Board, memory: [Vec<u8>; 2], call: Call) -> Pair {
         let [proved, beside] = memory;
-        Pair { board, call, proved, beside }
+        Pair { board, call, proved, beside, hidden: false }
+    }
+
+    /// The same, but a disagreement is told without values, any of which may be a key's.
+    pub fn without_values(self) -> Pair {
+        Pair { hidden: true, ..self }
     }
 
     /// The memory as the proved call left it.
@@ -117,7 +124,10 @@ impl Pair {
             let beside = hub.answer(&record);
             let Heard { rule, protected } = std::mem::take(hub.observer());
             if answer != beside {
-                return Err(different_answers(index, &record, bases, [&answer, &beside], protected));
+                // The proved call may have reached what the reference keeps shut.
+                let leaked = answer.target() == Some(Target::Memory) && hub.protected(answer.address);
+                let hidden = self.hidden || protected || leaked;
+                return Err(different_answers(index, &record, bases, [&answer, &beside], hidden));
             }
             let now = register_now(&mut hub, &record, &answer);
             each(&Step { index, record, answer, rule, protected, bases, now, hub: &hub })?;
@@ -243,6 +253,26 @@ mod tests {
         assert_eq!(failure.status, Status::Disagreement);
         let failure = Pair::by(Board::I82810, memory(), refusing).replay(&[], |_| Ok(())).expect_err("a refusing call");
         assert_eq!(failure.status, Status::Disagreement);
+    }
+
+    /// Reaches protected memory by an address at which the reference does not.
+    fn leaking(board: u32, memory: &mut [u8], records: &[u8], answers: &mut [u8]) -> u32 {
+        let fault = OneFault::new(Fault::HsegOpensCompatibleRange);
+        reference::replay_with(board, memory, records, answers, Unobserved, fault)
+    }
+
+    #[test]
+    fn a_key_that_only_the_call_reaches_is_not_shown() {
+        let mut records = smram(0x10).to_vec();
+        records.push(Record::read(0xA_0000, 4, true));
+        let memory = memory().map(|mut memory| {
+            memory[0xA_0000..0xA_0004].fill(0x5A);
+            memory
+        });
+        let mut pair = Pair::by(Board::I82810, memory, leaking);
+        let failure = pair.replay(&record::encode(&records), |_| Ok(())).expect_err("a leaking call");
+        assert!(failure.message.contains("DISAGREE at record 3 of the call"), "{}", failure.message);
+        assert!(failure.message.contains("shown as 0") && !failure.message.contains("5A"), "{}", failure.message);
     }
 
     fn list(length: usize, resets: &[usize]) -> Vec<u8> {
