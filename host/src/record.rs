@@ -7,12 +7,38 @@
 use std::fmt;
 
 /// Bytes of one record, and of one answer.
+///
+/// ```
+/// use mitrophel::record::{encode, RECORD_BYTES};
+/// use mitrophel::Record;
+///
+/// assert_eq!(encode(&[Record::reset(); 3]).len(), 3 * RECORD_BYTES);
+/// ```
 pub const RECORD_BYTES: usize = 16;
 
 /// "at most 65,535 records"
+///
+/// ```
+/// use mitrophel::record::MAX_RECORDS;
+/// use mitrophel::{replay_records, Board, Record};
+///
+/// let (mut memory, records) = (vec![0; 8 << 20], vec![Record::reset(); MAX_RECORDS + 1]);
+/// assert!(replay_records(Board::I82810, &mut memory, &records[1..]).is_ok());
+/// assert!(replay_records(Board::I82810, &mut memory, &records).is_err());
+/// ```
 pub const MAX_RECORDS: usize = 65_535;
 
 /// What a record asks for. The discriminant is byte 0 of the record.
+///
+/// ```
+/// use mitrophel::{Kind, Record};
+///
+/// let record = Record::code_read(0xA_0000, 4, true);
+/// assert_eq!(record.kind(), Some(Kind::CodeRead));
+/// assert_eq!(Kind::CodeRead.number(), 4);
+/// assert_eq!(Kind::CodeRead.to_string(), "processor code read");
+/// assert!(Kind::CodeRead.is_access() && Kind::CodeRead.is_processor() && !Kind::CodeRead.is_write());
+/// ```
 #[derive(Clone, Copy, Debug, PartialEq, Eq, Hash)]
 #[repr(u8)]
 pub enum Kind {
@@ -51,6 +77,12 @@ impl Kind {
     ];
 
     /// The kind of a record's byte 0, if it is one.
+    ///
+    /// ```
+    /// # use mitrophel::Kind;
+    /// assert_eq!(Kind::from_number(9), Some(Kind::Reset));
+    /// assert_eq!(Kind::from_number(0), None);
+    /// ```
     #[inline]
     pub const fn from_number(number: u8) -> Option<Kind> {
         Some(match number {
@@ -74,18 +106,36 @@ impl Kind {
     }
 
     /// Kinds 1 to 7, which have an address and a width.
+    ///
+    /// ```
+    /// # use mitrophel::Kind;
+    /// let others: Vec<Kind> = Kind::ALL.into_iter().filter(|kind| !kind.is_access()).collect();
+    /// assert_eq!(others, [Kind::Run, Kind::Reset]);
+    /// ```
     #[inline]
     pub const fn is_access(self) -> bool {
         !matches!(self, Kind::Run | Kind::Reset)
     }
 
     /// Kinds 2, 5 and 7, whose data is stored.
+    ///
+    /// ```
+    /// # use mitrophel::Kind;
+    /// let writes: Vec<Kind> = Kind::ALL.into_iter().filter(|kind| kind.is_write()).collect();
+    /// assert_eq!(writes, [Kind::IoWrite, Kind::Write, Kind::MasterWrite]);
+    /// ```
     #[inline]
     pub const fn is_write(self) -> bool {
         matches!(self, Kind::IoWrite | Kind::Write | Kind::MasterWrite)
     }
 
     /// Kinds 3 to 5: the processor's, which alone may be in management mode.
+    ///
+    /// ```
+    /// # use mitrophel::Kind;
+    /// let processor: Vec<Kind> = Kind::ALL.into_iter().filter(|kind| kind.is_processor()).collect();
+    /// assert_eq!(processor, [Kind::DataRead, Kind::CodeRead, Kind::Write]);
+    /// ```
     #[inline]
     pub const fn is_processor(self) -> bool {
         matches!(self, Kind::DataRead | Kind::CodeRead | Kind::Write)
@@ -109,6 +159,24 @@ impl fmt::Display for Kind {
 }
 
 /// One record, good or bad, field by field.
+///
+/// ```
+/// use mitrophel::Record;
+///
+/// let records = [
+///     Record::io_write(0xCF8, 4, 0x8000_0070), // select SMRAM
+///     Record::io_read(0xCFC, 1),
+///     Record::write(0xA_0000, 4, 7, true), // in management mode
+///     Record::read(0xA_0000, 4, false),
+///     Record::code_read(0xA_0000, 2, false),
+///     Record::master_write(0x1000, 4, 7),
+///     Record::master_read(0x1000, 4),
+///     Record::run(100),
+///     Record::reset(),
+/// ];
+/// assert!(records.iter().all(Record::keeps_layout));
+/// assert_eq!(records[2].to_string(), "processor write at A0000h, width 4, data 7h, management mode");
+/// ```
 #[derive(Clone, Copy, Debug, Default, PartialEq, Eq, Hash)]
 pub struct Record {
     /// Byte 0; see [`Kind`].
@@ -129,6 +197,11 @@ pub struct Record {
 
 impl Record {
     /// Management mode, the only flag.
+    ///
+    /// ```
+    /// # use mitrophel::Record;
+    /// assert_eq!(Record::read(0, 4, true).flags, Record::MANAGEMENT);
+    /// ```
     pub const MANAGEMENT: u8 = 1;
 
     const fn access(kind: Kind, width: u8, management: bool, address: u32, data: u32) -> Record {
@@ -181,6 +254,12 @@ impl Record {
     }
 
     /// The fields of any 16 bytes.
+    ///
+    /// ```
+    /// # use mitrophel::Record;
+    /// let record = Record::from_bytes(&[3, 4, 0, 0, 0x00, 0x10, 0, 0, 0, 0, 0, 0, 0, 0, 0, 0]);
+    /// assert_eq!(record, Record::read(0x1000, 4, false));
+    /// ```
     #[inline]
     pub const fn from_bytes(bytes: &[u8; RECORD_BYTES]) -> Record {
         let [kind, width, flags, reserved, a0, a1, a2, a3, d0, d1, d2, d3, t0, t1, t2, t3] = *bytes;
@@ -196,6 +275,11 @@ impl Record {
     }
 
     /// The 16 bytes of a record; the inverse of [`Record::from_bytes`].
+    ///
+    /// ```
+    /// # use mitrophel::Record;
+    /// assert_eq!(Record::run(0x1234).to_bytes(), [8, 0, 0, 0, 0, 0, 0, 0, 0x34, 0x12, 0, 0, 0, 0, 0, 0]);
+    /// ```
     #[inline]
     pub const fn to_bytes(self) -> [u8; RECORD_BYTES] {
         let [a0, a1, a2, a3] = self.address.to_le_bytes();
@@ -205,6 +289,12 @@ impl Record {
     }
 
     /// The kind, if byte 0 names one.
+    ///
+    /// ```
+    /// # use mitrophel::{Kind, Record};
+    /// assert_eq!(Record::run(1).kind(), Some(Kind::Run));
+    /// assert_eq!(Record::default().kind(), None);
+    /// ```
     #[inline]
     pub const fn kind(&self) -> Option<Kind> {
         Kind::from_number(self.kind)
@@ -218,6 +308,13 @@ impl Record {
 
     /// Whether the record keeps the layout; one that does not is refused with code 13. The width of
     /// kinds 1 to 7 is no part of it: code 2 is for that.
+    ///
+    /// ```
+    /// # use mitrophel::Record;
+    /// assert!(Record::read(0, 3, false).keeps_layout());
+    /// assert!(!Record { reserved: 1, ..Record::read(0, 4, false) }.keeps_layout());
+    /// assert!(!Record::io_read(0x1_0000, 4).keeps_layout());
+    /// ```
     #[inline]
     pub const fn keeps_layout(&self) -> bool {
         let Some(kind) = self.kind() else { return false };
@@ -259,6 +356,18 @@ impl fmt::Display for Record {
 }
 
 /// Where an access went. The discriminant is byte 1 of the answer.
+///
+/// ```
+/// use mitrophel::{replay_records, Board, Record, Target};
+///
+/// let mut memory = vec![0; 8 << 20];
+/// let answers = replay_records(Board::I82810, &mut memory, &[Record::read(0xFFFF_0000, 4, false)])?;
+/// assert_eq!(answers[0].target(), Some(Target::Hub));
+/// assert_eq!(Target::Hub.number(), 3);
+/// assert_eq!(Target::ALL.map(Target::number), [0, 1, 2, 3, 4, 5]);
+/// assert_eq!(Target::MemoryMapped.to_string(), "memory-mapped register");
+/// # Ok::<(), mitrophel::WrongArgument>(())
+/// ```
 #[derive(Clone, Copy, Debug, PartialEq, Eq, Hash)]
 #[repr(u8)]
 pub enum Target {
@@ -282,6 +391,12 @@ impl Target {
         [Target::None, Target::Memory, Target::Register, Target::Hub, Target::Vga, Target::MemoryMapped];
 
     /// The target of an answer's byte 1, if it is one.
+    ///
+    /// ```
+    /// # use mitrophel::Target;
+    /// assert_eq!(Target::from_number(4), Some(Target::Vga));
+    /// assert_eq!(Target::from_number(6), None);
+    /// ```
     #[inline]
     pub const fn from_number(number: u8) -> Option<Target> {
         Some(match number {
@@ -315,7 +430,19 @@ impl fmt::Display for Target {
     }
 }
 
-/// Why a record, or the whole call, was refused. The discriminant is the code.
+/// Why a record was refused: an answer's code, which is the discriminant. Code 1 is the call's own; see
+/// [`WrongArgument`](crate::WrongArgument).
+///
+/// ```
+/// use mitrophel::{replay_records, Board, Record, Refusal};
+///
+/// let mut memory = vec![0; 8 << 20];
+/// let answers = replay_records(Board::I82810, &mut memory, &[Record::read(0x1002, 4, false)])?;
+/// assert_eq!(answers[0].refusal(), Some(Refusal::Width));
+/// assert_eq!(Refusal::Width.code(), 2);
+/// assert_eq!(Refusal::PageProtected.to_string(), "refused 6: entry's page is protected");
+/// # Ok::<(), mitrophel::WrongArgument>(())
+/// ```
 #[derive(Clone, Copy, Debug, PartialEq, Eq, Hash)]
 #[repr(u8)]
 pub enum Refusal {
@@ -366,6 +493,12 @@ impl Refusal {
     ];
 
     /// The refusal of a code; none for 0 and for numbers that are no code.
+    ///
+    /// ```
+    /// # use mitrophel::Refusal;
+    /// assert_eq!(Refusal::from_code(13), Some(Refusal::Layout));
+    /// assert_eq!(Refusal::from_code(0), None);
+    /// ```
     #[inline]
     pub const fn from_code(code: u8) -> Option<Refusal> {
         Some(match code {
@@ -393,6 +526,11 @@ impl Refusal {
     }
 
     /// The reason in words, without the number.
+    ///
+    /// ```
+    /// # use mitrophel::Refusal;
+    /// assert_eq!(Refusal::EntryNotValid.reason(), "entry is not valid");
+    /// ```
     pub const fn reason(self) -> &'static str {
         match self {
             Refusal::Arguments => "board kind, memory length, record length or answer length is wrong",
@@ -421,6 +559,17 @@ impl fmt::Display for Refusal {
 impl std::error::Error for Refusal {}
 
 /// One answer, field by field.
+///
+/// ```
+/// use mitrophel::{replay_records, Answer, Board, Record};
+///
+/// let mut memory = vec![0; 8 << 20];
+/// memory[0x1000] = 0x12;
+/// let answers = replay_records(Board::I82810, &mut memory, &[Record::read(0x1000, 1, false)])?;
+/// assert_eq!(answers[0], Answer { target: 1, address: 0x1000, value: 0x12, ..Answer::default() });
+/// assert_eq!(answers[0].to_string(), "memory at 1000h, value 12h");
+/// # Ok::<(), mitrophel::WrongArgument>(())
+/// ```
 #[derive(Clone, Copy, Debug, Default, PartialEq, Eq, Hash)]
 pub struct Answer {
     /// Byte 0: 0, or the code of a [`Refusal`].
@@ -441,6 +590,12 @@ pub struct Answer {
 
 impl Answer {
     /// The fields of any 16 bytes.
+    ///
+    /// ```
+    /// # use mitrophel::{Answer, Target};
+    /// let answer = Answer::from_bytes(&[0, 1, 0, 0, 0x00, 0x10, 0, 0, 0x12, 0, 0, 0, 0, 0, 0, 0]);
+    /// assert_eq!((answer.target(), answer.address, answer.value), (Some(Target::Memory), 0x1000, 0x12));
+    /// ```
     #[inline]
     pub const fn from_bytes(bytes: &[u8; RECORD_BYTES]) -> Answer {
         let [code, target, line, reserved, a0, a1, a2, a3, v0, v1, v2, v3, c0, c1, c2, c3] = *bytes;
@@ -456,6 +611,12 @@ impl Answer {
     }
 
     /// The 16 bytes of an answer; the inverse of [`Answer::from_bytes`].
+    ///
+    /// ```
+    /// # use mitrophel::Answer;
+    /// let answer = Answer { count: 3, ..Answer::default() };
+    /// assert_eq!(answer.to_bytes()[12..], [3, 0, 0, 0]);
+    /// ```
     #[inline]
     pub const fn to_bytes(self) -> [u8; RECORD_BYTES] {
         let [a0, a1, a2, a3] = self.address.to_le_bytes();
@@ -465,12 +626,24 @@ impl Answer {
     }
 
     /// The refusal, or none where the record was answered with code 0.
+    ///
+    /// ```
+    /// # use mitrophel::{Answer, Refusal};
+    /// assert_eq!(Answer { code: 6, ..Answer::default() }.refusal(), Some(Refusal::PageProtected));
+    /// assert_eq!(Answer::default().refusal(), None);
+    /// ```
     #[inline]
     pub const fn refusal(&self) -> Option<Refusal> {
         Refusal::from_code(self.code)
     }
 
     /// The target, if byte 1 names one.
+    ///
+    /// ```
+    /// # use mitrophel::{Answer, Target};
+    /// assert_eq!(Answer { target: 2, ..Answer::default() }.target(), Some(Target::Register));
+    /// assert_eq!(Answer { target: 9, ..Answer::default() }.target(), None);
+    /// ```
     #[inline]
     pub const fn target(&self) -> Option<Target> {
         Target::from_number(self.target)
@@ -496,16 +669,40 @@ impl fmt::Display for Answer {
 }
 
 /// The bytes of a list of records, as [`crate::call::replay`] takes them.
+///
+/// ```
+/// use mitrophel::{record, Record};
+///
+/// let records = [Record::run(1), Record::reset()];
+/// assert!(record::decode(&record::encode(&records)).eq(records));
+/// ```
 pub fn encode(records: &[Record]) -> Vec<u8> {
     records.iter().flat_map(|record| record.to_bytes()).collect()
 }
 
 /// The records of a byte string. Up to 15 bytes past the last whole record are left out.
+///
+/// ```
+/// use mitrophel::record;
+///
+/// assert_eq!(record::decode(&[0; 40]).len(), 2);
+/// ```
 pub fn decode(bytes: &[u8]) -> impl ExactSizeIterator<Item = Record> + '_ {
     bytes.as_chunks::<RECORD_BYTES>().0.iter().map(Record::from_bytes)
 }
 
 /// The answers of a byte string. Up to 15 bytes past the last whole answer are left out.
+///
+/// ```
+/// use mitrophel::{record, replay, Board, Record};
+///
+/// let records = record::encode(&[Record::run(1), Record::read(0, 4, false)]);
+/// let (mut memory, mut answers) = (vec![7; 8 << 20], vec![0; records.len()]);
+/// replay(Board::I82810, &mut memory, &records, &mut answers)?;
+/// let values: Vec<u32> = record::decode_answers(&answers).map(|answer| answer.value).collect();
+/// assert_eq!(values, [0, 0x0707_0707]);
+/// # Ok::<(), mitrophel::WrongArgument>(())
+/// ```
 pub fn decode_answers(bytes: &[u8]) -> impl ExactSizeIterator<Item = Answer> + '_ {
     bytes.as_chunks::<RECORD_BYTES>().0.iter().map(Answer::from_bytes)
 }

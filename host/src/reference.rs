@@ -4,8 +4,8 @@
 //! text with the model's definitions. Every index is bounds-checked, and the only memory it makes is
 //! the translation table, on the stack.
 //!
-//! Each function quotes the sentence that it implements. `wrong` asks for a deliberate [`Fault`] and
-//! is constantly false in [`replay`].
+//! Each function quotes the sentence that it implements. `wrong` asks for a deliberate fault, which only
+//! tests have, and is constantly false in [`replay`].
 
 mod configuration;
 mod observe;
@@ -29,19 +29,61 @@ const KIB: u32 = 1 << 10;
 const MIB: u32 = 1 << 20;
 
 /// "The translation table is 16,384 words of 32 bits".
+///
+/// ```
+/// use mitrophel::reference::{Table, TABLE_WORDS};
+///
+/// assert_eq!(size_of::<Table>(), 64 << 10);
+/// assert_eq!(4096 * TABLE_WORDS, 64 << 20); // a page for each entry: the window's size
+/// ```
 pub const TABLE_WORDS: usize = 16_384;
 
 /// The translation table (GTT).
+///
+/// ```
+/// use mitrophel::reference::{Gmch, Table, TABLE_WORDS};
+/// use mitrophel::Board;
+///
+/// // 64 KiB: a small stack keeps it on the heap.
+/// let mut table: Box<Table> = Box::new([0; TABLE_WORDS]);
+/// assert!(Gmch::new(Board::I82810, &mut vec![0; 8 << 20], &mut table).is_some());
+/// ```
 pub type Table = [u32; TABLE_WORDS];
 
 /// Replays all records from a cold start: 0, or 1 where the arguments are wrong.
 ///
 /// "Each call is a cold start, replays all records in order and returns 0."
+///
+/// ```
+/// use mitrophel::call::gmch_replay;
+/// use mitrophel::{record, reference, Record};
+///
+/// let records = record::encode(&[Record::io_write(0xCF8, 4, 0x8000_0000), Record::io_read(0xCFC, 4)]);
+/// let [mut proved, mut beside] = [vec![0; records.len()], vec![0; records.len()]];
+/// assert_eq!(gmch_replay(0, &mut vec![0; 8 << 20], &records, &mut proved), 0);
+/// assert_eq!(reference::replay(0, &mut vec![0; 8 << 20], &records, &mut beside), 0);
+/// assert_eq!(proved, beside);
+/// ```
 pub fn replay(board: u32, memory: &mut [u8], records: &[u8], answers: &mut [u8]) -> u32 {
     replay_with(board, memory, records, answers, Unobserved, Faultless)
 }
 
 /// [`replay`] with an observer and faults.
+///
+/// ```
+/// # #[cfg(feature = "faults")] {
+/// use mitrophel::faults::{Fault, OneFault};
+/// use mitrophel::reference::{replay, replay_with, Unobserved};
+/// use mitrophel::{record, Record};
+///
+/// let records = record::encode(&[Record::read(0x1002, 1, false), Record::read(0x1001, 2, false)]);
+/// let [mut right, mut wrong] = [vec![0; records.len()], vec![0; records.len()]];
+/// replay(0, &mut vec![0; 8 << 20], &records, &mut right);
+/// let fault = OneFault::new(Fault::NaturalAlignmentAsked);
+/// replay_with(0, &mut vec![0; 8 << 20], &records, &mut wrong, Unobserved, fault);
+/// assert_ne!(right, wrong);
+/// # }
+/// ```
 #[cfg_attr(not(feature = "faults"), doc(hidden), allow(private_bounds))]
 pub fn replay_with<O: Observer, F: Faults>(
     board: u32,
@@ -209,6 +251,17 @@ impl<'m, O: Observer, F: Faults> Gmch<'m, O, F> {
     }
 
     /// Carries out one record and answers it.
+    ///
+    /// ```
+    /// use mitrophel::reference::{Gmch, TABLE_WORDS};
+    /// use mitrophel::{Board, Record, Refusal};
+    ///
+    /// let (mut memory, mut table) = (vec![0; 8 << 20], [0; TABLE_WORDS]);
+    /// let mut gmch = Gmch::new(Board::I82810, &mut memory, &mut table).expect("8 MiB is a memory");
+    /// gmch.answer(&Record::write(0x1000, 4, 7, false));
+    /// assert_eq!(gmch.answer(&Record::read(0x1000, 4, false)).value, 7);
+    /// assert_eq!(gmch.answer(&Record::default()).refusal(), Some(Refusal::Layout));
+    /// ```
     #[inline]
     pub fn answer(&mut self, record: &Record) -> Answer {
         let line_before = self.line();
@@ -275,35 +328,102 @@ impl<'m, O: Observer, F: Faults> Gmch<'m, O, F> {
     }
 
     /// CF8h.
+    ///
+    /// ```
+    /// # use mitrophel::reference::{Gmch, TABLE_WORDS};
+    /// # use mitrophel::{Board, Record};
+    /// # let (mut memory, mut table) = (vec![0; 8 << 20], [0; TABLE_WORDS]);
+    /// # let mut gmch = Gmch::new(Board::I82810, &mut memory, &mut table).expect("8 MiB is a memory");
+    /// gmch.answer(&Record::io_write(0xCF8, 4, 0x8000_0073));
+    /// assert_eq!(gmch.config_address(), 0x8000_0070);
+    /// ```
     #[inline]
     pub fn config_address(&self) -> u32 {
         self.config_address
     }
 
     /// The translation table.
+    ///
+    /// ```
+    /// # use mitrophel::reference::{Gmch, TABLE_WORDS};
+    /// # use mitrophel::{Board, Record};
+    /// # let (mut memory, mut table) = (vec![0; 8 << 20], [0; TABLE_WORDS]);
+    /// # let mut gmch = Gmch::new(Board::I82810, &mut memory, &mut table).expect("8 MiB is a memory");
+    /// # for (register, data) in [(0x70, 0x40), (0x814, 0xF000_0000), (0x804, 2)] {
+    /// #     gmch.answer(&Record::io_write(0xCF8, 4, 0x8000_0000 | register));
+    /// #     gmch.answer(&Record::io_write(0xCFC, 4, data));
+    /// # }
+    /// // The registers are at F0000000h.
+    /// gmch.answer(&Record::write(0xF001_0028, 4, 0x10_0001, false));
+    /// assert_eq!(gmch.table()[10], 0x10_0001);
+    /// ```
     #[inline]
     pub fn table(&self) -> &Table {
         self.table
     }
 
     /// A fence register; none past number 7.
+    ///
+    /// ```
+    /// # use mitrophel::reference::{Gmch, TABLE_WORDS};
+    /// # use mitrophel::{Board, Record};
+    /// # let (mut memory, mut table) = (vec![0; 8 << 20], [0; TABLE_WORDS]);
+    /// # let mut gmch = Gmch::new(Board::I82810, &mut memory, &mut table).expect("8 MiB is a memory");
+    /// # use mitrophel::reference::Fence;
+    /// assert_eq!(gmch.fence(7), Some(Fence(0)));
+    /// assert_eq!(gmch.fence(8), None);
+    /// ```
     pub fn fence(&self, number: usize) -> Option<Fence> {
         self.fences.get(number).copied()
     }
 
     /// TOM, the memory's length.
+    ///
+    /// ```
+    /// # use mitrophel::reference::{Gmch, TABLE_WORDS};
+    /// # use mitrophel::{Board, Record};
+    /// # let (mut memory, mut table) = (vec![0; 8 << 20], [0; TABLE_WORDS]);
+    /// # let mut gmch = Gmch::new(Board::I82810, &mut memory, &mut table).expect("8 MiB is a memory");
+    /// assert_eq!(gmch.tom(), 8 << 20);
+    /// ```
     #[inline]
     pub fn tom(&self) -> u32 {
         self.tom
     }
 
     /// The memory lent.
+    ///
+    /// ```
+    /// # use mitrophel::reference::{Gmch, TABLE_WORDS};
+    /// # use mitrophel::{Board, Record};
+    /// # let (mut memory, mut table) = (vec![0; 8 << 20], [0; TABLE_WORDS]);
+    /// # let mut gmch = Gmch::new(Board::I82810, &mut memory, &mut table).expect("8 MiB is a memory");
+    /// gmch.answer(&Record::master_write(0x1000, 2, 0x1234));
+    /// assert_eq!(gmch.memory()[0x1000..0x1002], [0x34, 0x12]);
+    /// ```
     #[inline]
     pub fn memory(&self) -> &[u8] {
         self.memory
     }
 
     /// The observer.
+    ///
+    /// ```
+    /// use mitrophel::reference::{Gmch, Observer, Touch, TABLE_WORDS};
+    /// use mitrophel::{Board, Record};
+    ///
+    /// #[derive(Default)]
+    /// struct Touched(u32);
+    /// impl Observer for Touched {
+    ///     fn touched(&mut self, touch: Touch) {
+    ///         self.0 += touch.width;
+    ///     }
+    /// }
+    /// let (mut memory, mut table) = (vec![0; 8 << 20], [0; TABLE_WORDS]);
+    /// let mut gmch = Gmch::observed(Board::I82810, &mut memory, &mut table, Touched::default()).expect("a memory");
+    /// gmch.answer(&Record::read(0x1000, 4, false));
+    /// assert_eq!(std::mem::take(gmch.observer()).0, 4);
+    /// ```
     #[inline]
     pub fn observer(&mut self) -> &mut O {
         &mut self.observer

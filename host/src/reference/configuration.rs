@@ -95,10 +95,29 @@ pub(super) fn default_bytes(board: usize, device: usize) -> [u8; 256] {
 }
 
 /// Device 0 register 70.
+///
+/// ```
+/// use mitrophel::reference::{Lsmm, Smram};
+///
+/// // Graphics on with 512 KiB taken, TSEG of 1 MiB, A0000h-BFFFFh for management mode, locked.
+/// let smram = Smram(0xBE);
+/// assert!(smram.graphics_on() && smram.locked());
+/// assert_eq!((smram.taken_bytes(), smram.tseg_bytes()), (512 << 10, 1 << 20));
+/// assert_eq!(smram.lsmm(), Lsmm::ManagementAll);
+/// assert!(!smram.hseg_acts());
+/// assert!(Smram(0x10).hseg_acts());
+/// ```
 #[derive(Clone, Copy, Debug, PartialEq, Eq)]
 pub struct Smram(pub u8);
 
 /// "3:2 LSMM (off; general memory; management code reads only; management all)"
+///
+/// ```
+/// use mitrophel::reference::{Lsmm, Smram};
+///
+/// let open = [0x00, 0x04, 0x08, 0x0C].map(|bits| Smram(bits).lsmm());
+/// assert_eq!(open, [Lsmm::Off, Lsmm::General, Lsmm::ManagementCodeReads, Lsmm::ManagementAll]);
+/// ```
 #[derive(Clone, Copy, Debug, PartialEq, Eq)]
 pub enum Lsmm {
     /// 00
@@ -302,12 +321,31 @@ impl<O: Observer, F: Faults> Gmch<'_, O, F> {
     }
 
     /// A byte of a device's configuration space, as a read gives it; none where there is none.
+    ///
+    /// ```
+    /// # use mitrophel::reference::{Gmch, TABLE_WORDS};
+    /// # use mitrophel::{Board, Record};
+    /// # let (mut memory, mut table) = (vec![0; 8 << 20], [0; TABLE_WORDS]);
+    /// # let mut gmch = Gmch::new(Board::I82810, &mut memory, &mut table).expect("8 MiB is a memory");
+    /// assert_eq!(gmch.config_byte(0, 0x00), Some(0x86)); // the low byte of Intel's number
+    /// assert_eq!(gmch.config_byte(2, 0x00), None);
+    /// ```
     pub fn config_byte(&self, device: usize, register: usize) -> Option<u8> {
         let exists = device < self.devices.len() && register < self.devices[0].len();
         exists.then(|| self.config_read(device, register, 1) as u8)
     }
 
     /// SMRAM, device 0 register 70.
+    ///
+    /// ```
+    /// # use mitrophel::reference::{Gmch, TABLE_WORDS};
+    /// # use mitrophel::{Board, Record};
+    /// # let (mut memory, mut table) = (vec![0; 8 << 20], [0; TABLE_WORDS]);
+    /// # let mut gmch = Gmch::new(Board::I82810, &mut memory, &mut table).expect("8 MiB is a memory");
+    /// gmch.answer(&Record::io_write(0xCF8, 4, 0x8000_0070));
+    /// gmch.answer(&Record::io_write(0xCFC, 1, 0x4E));
+    /// assert_eq!(gmch.smram().0, 0x4E);
+    /// ```
     #[inline]
     pub fn smram(&self) -> Smram {
         Smram(self.devices[0][SMRAM])
@@ -320,6 +358,17 @@ impl<O: Observer, F: Faults> Gmch<'_, O, F> {
     }
 
     /// The window's size.
+    ///
+    /// ```
+    /// # use mitrophel::reference::{Gmch, TABLE_WORDS};
+    /// # use mitrophel::{Board, Record};
+    /// # let (mut memory, mut table) = (vec![0; 8 << 20], [0; TABLE_WORDS]);
+    /// # let mut gmch = Gmch::new(Board::I82810, &mut memory, &mut table).expect("8 MiB is a memory");
+    /// assert_eq!(gmch.window_bytes(), 64 << 20);
+    /// gmch.answer(&Record::io_write(0xCF8, 4, 0x8000_0070));
+    /// gmch.answer(&Record::io_write(0xCFE, 2, 1));
+    /// assert_eq!(gmch.window_bytes(), 32 << 20);
+    /// ```
     #[inline]
     pub fn window_bytes(&self) -> u32 {
         match self.window_is_64() {
@@ -329,6 +378,18 @@ impl<O: Observer, F: Faults> Gmch<'_, O, F> {
     }
 
     /// The window's base: GMADR bits 31:25, of which bit 25 "counts as 0" at 64 MiB.
+    ///
+    /// ```
+    /// # use mitrophel::reference::{Gmch, TABLE_WORDS};
+    /// # use mitrophel::{Board, Record};
+    /// # let (mut memory, mut table) = (vec![0; 8 << 20], [0; TABLE_WORDS]);
+    /// # let mut gmch = Gmch::new(Board::I82810, &mut memory, &mut table).expect("8 MiB is a memory");
+    /// for (register, data) in [(0x70, 0x40), (0x810, 0xC200_0000)] {
+    ///     gmch.answer(&Record::io_write(0xCF8, 4, 0x8000_0000 | register));
+    ///     gmch.answer(&Record::io_write(0xCFC, 4, data));
+    /// }
+    /// assert_eq!(gmch.window_base(), 0xC000_0000);
+    /// ```
     #[inline]
     pub fn window_base(&self) -> u32 {
         let bits = if self.wrong(Fault::Bit25Counts) { 0xFE00_0000 } else { !(self.window_bytes() - 1) };
@@ -336,12 +397,37 @@ impl<O: Observer, F: Faults> Gmch<'_, O, F> {
     }
 
     /// The base of the memory-mapped registers: MMADR bits 31:19.
+    ///
+    /// ```
+    /// # use mitrophel::reference::{Gmch, TABLE_WORDS};
+    /// # use mitrophel::{Board, Record};
+    /// # let (mut memory, mut table) = (vec![0; 8 << 20], [0; TABLE_WORDS]);
+    /// # let mut gmch = Gmch::new(Board::I82810, &mut memory, &mut table).expect("8 MiB is a memory");
+    /// for (register, data) in [(0x70, 0x40), (0x814, 0xF000_0000)] {
+    ///     gmch.answer(&Record::io_write(0xCF8, 4, 0x8000_0000 | register));
+    ///     gmch.answer(&Record::io_write(0xCFC, 4, data));
+    /// }
+    /// assert_eq!(gmch.registers_base(), 0xF000_0000);
+    /// ```
     #[inline]
     pub fn registers_base(&self) -> u32 {
         self.device_word(1, MMADR) & 0xFFF8_0000
     }
 
     /// Rules 7 and 8 act "only if GMS is not 00 and device 1 register 04 bit 1 is set".
+    ///
+    /// ```
+    /// # use mitrophel::reference::{Gmch, TABLE_WORDS};
+    /// # use mitrophel::{Board, Record};
+    /// # let (mut memory, mut table) = (vec![0; 8 << 20], [0; TABLE_WORDS]);
+    /// # let mut gmch = Gmch::new(Board::I82810, &mut memory, &mut table).expect("8 MiB is a memory");
+    /// assert!(!gmch.graphics_decodes());
+    /// for (register, data) in [(0x70, 0x40), (0x804, 2)] {
+    ///     gmch.answer(&Record::io_write(0xCF8, 4, 0x8000_0000 | register));
+    ///     gmch.answer(&Record::io_write(0xCFC, 4, data));
+    /// }
+    /// assert!(gmch.graphics_decodes());
+    /// ```
     #[inline]
     pub fn graphics_decodes(&self) -> bool {
         self.smram().graphics_on() && self.devices[1][COMMAND] & 2 != 0

@@ -4,6 +4,29 @@ use crate::record::{Answer, Record};
 use std::fmt;
 
 /// Is told what a replay does. Every method does nothing unless it is overridden.
+///
+/// ```
+/// use mitrophel::reference::{Gmch, Observer, Rule, Touch, TABLE_WORDS};
+/// use mitrophel::{Answer, Board, Record};
+///
+/// #[derive(Default)]
+/// struct Log(Vec<String>);
+/// impl Observer for Log {
+///     fn routed(&mut self, rule: Rule) {
+///         self.0.push(rule.to_string());
+///     }
+///     fn touched(&mut self, touch: Touch) {
+///         self.0.push(format!("{:X}h", touch.address));
+///     }
+///     fn answered(&mut self, _: &Record, answer: &Answer) {
+///         self.0.push(answer.to_string());
+///     }
+/// }
+/// let (mut memory, mut table, mut log) = (vec![0; 8 << 20], [0; TABLE_WORDS], Log::default());
+/// let mut gmch = Gmch::observed(Board::I82810, &mut memory, &mut table, &mut log).expect("a memory");
+/// gmch.answer(&Record::read(0x1000, 4, false));
+/// assert_eq!(log.0, ["rule 1: memory", "1000h", "memory at 1000h, value 0h"]);
+/// ```
 pub trait Observer {
     /// A port or an address was routed by this rule.
     #[inline(always)]
@@ -19,6 +42,15 @@ pub trait Observer {
 }
 
 /// Nobody looks.
+///
+/// ```
+/// use mitrophel::reference::{Gmch, Unobserved, TABLE_WORDS};
+/// use mitrophel::Board;
+///
+/// let (mut memory, mut table) = (vec![0; 8 << 20], [0; TABLE_WORDS]);
+/// let gmch: Option<Gmch<'_, Unobserved>> = Gmch::new(Board::I82810, &mut memory, &mut table);
+/// assert!(gmch.is_some());
+/// ```
 #[derive(Clone, Copy, Debug, Default)]
 pub struct Unobserved;
 
@@ -42,6 +74,24 @@ impl<O: Observer> Observer for &mut O {
 }
 
 /// One access to main memory, at its final physical address.
+///
+/// ```
+/// use mitrophel::reference::{Gmch, Observer, Touch, TABLE_WORDS};
+/// use mitrophel::{Board, Record};
+///
+/// #[derive(Default)]
+/// struct Last(Option<Touch>);
+/// impl Observer for Last {
+///     fn touched(&mut self, touch: Touch) {
+///         self.0 = Some(touch);
+///     }
+/// }
+/// let (mut memory, mut table) = (vec![0; 8 << 20], [0; TABLE_WORDS]);
+/// let mut gmch = Gmch::observed(Board::I82810, &mut memory, &mut table, Last::default()).expect("a memory");
+/// gmch.answer(&Record::write(0x1000, 4, 7, false));
+/// let touch = Touch { address: 0x1000, width: 4, write: true, protected: false };
+/// assert_eq!(gmch.observer().0, Some(touch));
+/// ```
 #[derive(Clone, Copy, Debug, PartialEq, Eq)]
 pub struct Touch {
     /// The first byte.
@@ -58,6 +108,13 @@ macro_rules! rules {
     ($($name:ident = $text:literal,)*) => {
         /// The rule by which a port or an address was routed (document 01, "Configuration space" and
         /// "Where an address goes"), with its outcome where it has several.
+        ///
+        /// ```
+        /// use mitrophel::reference::Rule;
+        ///
+        /// assert_eq!(Rule::TsegError.to_string(), "rule 5: hub, error bit");
+        /// assert!(Rule::ALL.contains(&Rule::Window));
+        /// ```
         #[derive(Clone, Copy, Debug, PartialEq, Eq, Hash)]
         pub enum Rule { $(#[doc = $text] $name,)* }
 

@@ -103,6 +103,15 @@ impl<O: Observer, F: Faults> Gmch<'_, O, F> {
     }
 
     /// The listed memory-mapped register at this offset, as a read of it gives it; none where none starts.
+    ///
+    /// ```
+    /// # use mitrophel::reference::{Gmch, TABLE_WORDS};
+    /// # use mitrophel::{Board, Record};
+    /// # let (mut memory, mut table) = (vec![0; 8 << 20], [0; TABLE_WORDS]);
+    /// # let mut gmch = Gmch::new(Board::I82810, &mut memory, &mut table).expect("8 MiB is a memory");
+    /// assert_eq!(gmch.register(0x20A8), Some(0xFFFF)); // the interrupt mask
+    /// assert_eq!(gmch.register(0x20AA), None);
+    /// ```
     pub fn register(&self, offset: u32) -> Option<u32> {
         Listed::in_word(offset).filter(|_| offset.is_multiple_of(4)).map(|listed| self.register_read(listed))
     }

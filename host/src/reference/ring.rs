@@ -5,6 +5,14 @@ use crate::faults::{Fault, Faults};
 use crate::record::{Answer, Refusal};
 
 /// The ring's four registers.
+///
+/// ```
+/// use mitrophel::reference::Ring;
+///
+/// let ring = Ring { tail: 0x20, head: 3 << 21 | 0x10, start: 0x1_0000, length: 0x1001 };
+/// assert!(ring.enabled());
+/// assert_eq!((ring.bytes(), ring.head_offset(), ring.wraps()), (0x2000, 0x10, 3));
+/// ```
 #[derive(Clone, Copy, Debug, Default, PartialEq, Eq)]
 pub struct Ring {
     /// 2030h
@@ -147,12 +155,36 @@ impl<O: Observer, F: Faults> Gmch<'_, O, F> {
     }
 
     /// The ring's registers.
+    ///
+    /// ```
+    /// # use mitrophel::reference::{Gmch, TABLE_WORDS};
+    /// # use mitrophel::{Board, Record};
+    /// # let (mut memory, mut table) = (vec![0; 8 << 20], [0; TABLE_WORDS]);
+    /// # let mut gmch = Gmch::new(Board::I82810, &mut memory, &mut table).expect("8 MiB is a memory");
+    /// assert!(!gmch.ring().enabled());
+    /// ```
     #[inline]
     pub fn ring(&self) -> Ring {
         self.ring
     }
 
     /// Where the parser would fetch the word at this offset of the window, or why it would be refused.
+    ///
+    /// ```
+    /// # use mitrophel::reference::{Gmch, TABLE_WORDS};
+    /// # use mitrophel::{Board, Record, Refusal};
+    /// # let (mut memory, mut table) = (vec![0; 8 << 20], [0; TABLE_WORDS]);
+    /// # let mut gmch = Gmch::new(Board::I82810, &mut memory, &mut table).expect("8 MiB is a memory");
+    /// # for (register, data) in [(0x70, 0x40), (0x814, 0xF000_0000), (0x804, 2)] {
+    /// #     gmch.answer(&Record::io_write(0xCF8, 4, 0x8000_0000 | register));
+    /// #     gmch.answer(&Record::io_write(0xCFC, 4, data));
+    /// # }
+    /// // The registers are at F0000000h: translation on, and entry 0 at 100000h.
+    /// gmch.answer(&Record::write(0xF000_2020, 4, 1, false));
+    /// gmch.answer(&Record::write(0xF001_0000, 4, 0x10_0001, false));
+    /// assert_eq!(gmch.fetch_address(0x10), Ok(0x10_0010));
+    /// assert_eq!(gmch.fetch_address(0x1000), Err(Refusal::EntryNotValid));
+    /// ```
     pub fn fetch_address(&self, offset: u32) -> Result<u32, Refusal> {
         if offset >= self.window_bytes() {
             return Err(Refusal::OutsideWindow);

@@ -52,6 +52,16 @@ impl<O: Observer, F: Faults> Gmch<'_, O, F> {
     }
 
     /// "T = TSEG size, G = taken size, U = TOM - T - G."
+    ///
+    /// ```
+    /// # use mitrophel::reference::{Gmch, TABLE_WORDS};
+    /// # use mitrophel::{Board, Record};
+    /// # let (mut memory, mut table) = (vec![0; 8 << 20], [0; TABLE_WORDS]);
+    /// # let mut gmch = Gmch::new(Board::I82810, &mut memory, &mut table).expect("8 MiB is a memory");
+    /// gmch.answer(&Record::io_write(0xCF8, 4, 0x8000_0070));
+    /// gmch.answer(&Record::io_write(0xCFC, 1, 0xBE)); // 512 KiB taken, TSEG of 1 MiB
+    /// assert_eq!(gmch.usable_top(), 0x68_0000);
+    /// ```
     #[inline]
     pub fn usable_top(&self) -> u32 {
         self.tom - self.smram().tseg_bytes() - self.smram().taken_bytes()
@@ -155,6 +165,17 @@ impl<O: Observer, F: Faults> Gmch<'_, O, F> {
     }
 
     /// "Protected: A0000h-BFFFFh if LSMM is 10 or 11, or HSEG acts; and the TSEG. Locked or not."
+    ///
+    /// ```
+    /// # use mitrophel::reference::{Gmch, TABLE_WORDS};
+    /// # use mitrophel::{Board, Record};
+    /// # let (mut memory, mut table) = (vec![0; 8 << 20], [0; TABLE_WORDS]);
+    /// # let mut gmch = Gmch::new(Board::I82810, &mut memory, &mut table).expect("8 MiB is a memory");
+    /// gmch.answer(&Record::io_write(0xCF8, 4, 0x8000_0070));
+    /// gmch.answer(&Record::io_write(0xCFC, 1, 0xBE)); // 512 KiB taken, TSEG of 1 MiB
+    /// assert!(gmch.protected(0xA_0000) && gmch.protected(0x7F_FFFF));
+    /// assert!(!gmch.protected(0x6F_FFFF));
+    /// ```
     #[inline]
     pub fn protected(&self, address: u32) -> bool {
         let smram: Smram = self.smram();

@@ -6,6 +6,16 @@ use crate::faults::{Fault, Faults};
 use crate::record::{Answer, Refusal};
 
 /// A fence register.
+///
+/// ```
+/// use mitrophel::reference::Fence;
+///
+/// let fence = Fence(0x0008_0021); // 512 KiB from 80000h, a pitch of 512 bytes, valid
+/// assert!(fence.matches(0x8_0000) && !fence.matches(0x10_0000));
+/// assert!(!fence.ill_formed());
+/// assert_eq!(fence.tiled(0x8_0000 + 512), 0x8_0000 + 128); // row 1 of the first tile
+/// assert!(Fence(0x0008_0121).ill_formed()); // 1 MiB from 80000h
+/// ```
 #[derive(Clone, Copy, Debug, PartialEq, Eq)]
 pub struct Fence(pub u32);
 
