@@ -9,7 +9,7 @@ mod judge;
 mod runs;
 
 use super::args::{Grammar, Options};
-use super::explain::{self, Secrets, REDACTED};
+use super::explain::{self, Secrets};
 use super::failure::{Failure, Status};
 use super::files::Source;
 use super::load::{List, Memory};
@@ -20,6 +20,7 @@ use super::words::wrapped;
 use judge::{alike_at_lock, forbidden, seen, Difference, Field, Seen, Verdict};
 use mitrophel::call::gmch_replay;
 use mitrophel::record::{self, RECORD_BYTES};
+use mitrophel::trace::REDACTED;
 use runs::{Machine, Run, Scope};
 use std::ffi::{OsStr, OsString};
 use std::fs::File;
@@ -336,7 +337,7 @@ mod tests {
     #[test]
     fn a_disagreement_does_not_show_the_key() {
         let memory = Memory::zeros(8 << 20);
-        let list = List::text("leak.trace".to_string(), LEAK.as_bytes()).expect("a trace");
+        let list = List::text(&Source::File("leak.trace".into()), LEAK.as_bytes()).expect("a trace");
         let scope = Scope::of(&machine(&memory, gmch_replay), &list).expect("it locks");
         let failure = Run::of(&machine(&memory, leaking), &list, &scope, &keys()[0]).err().expect("the two disagree");
         assert_eq!(failure.status, Status::Disagreement);
@@ -348,7 +349,7 @@ mod tests {
     #[test]
     fn a_leak_through_the_window_is_forbidden() {
         let memory = Memory::zeros(8 << 20);
-        let list = List::text("leak.trace".to_string(), LEAK.as_bytes()).expect("a trace");
+        let list = List::text(&Source::File("leak.trace".into()), LEAK.as_bytes()).expect("a trace");
         let scope = Scope::of(&machine(&memory, gmch_replay), &list).expect("it locks");
         let keys = keys();
         let runs = keys.each_ref().map(|key| {
@@ -374,7 +375,7 @@ mod tests {
     #[test]
     fn registers_are_named() {
         let memory = Memory::zeros(8 << 20);
-        let list = List::text("leak.trace".to_string(), LEAK.as_bytes()).expect("a trace");
+        let list = List::text(&Source::File("leak.trace".into()), LEAK.as_bytes()).expect("a trace");
         let machine = machine(&memory, gmch_replay);
         let scope = Scope::of(&machine, &list).expect("it locks");
         let state = Run::of(&machine, &list, &scope, &keys()[0]).expect("the two agree").at_end;
