@@ -116,6 +116,20 @@ fn bless_renews_only_the_expectations_that_are_there() {
     assert_eq!(text, "reset\nread4 A0000h #> hub (rule 2: LSMM 00, shut, graphics off)\nreset\n");
 }
 
+/// What is expected in an included file is none of the trace's own expectations.
+#[test]
+fn bless_writes_a_trace_whose_included_files_alone_have_expectations() {
+    let folder = folder("bless-included");
+    let [trace, setup] = ["desk.trace", "setup.trace"].map(|name| folder.join(name));
+    fs::write(&setup, "reset #> hub\n").expect("a trace");
+    fs::write(&trace, "include setup.trace\nread4 A0000h\n").expect("a trace");
+    let blessed = run(&["replay", "--bless", &word(&trace)]);
+    assert_eq!(blessed.text, format!("{}: 1 new expectation written\n", trace.display()));
+    let text = fs::read_to_string(&trace).expect("the trace");
+    assert_eq!(text, "include setup.trace\nread4 A0000h                            #> hub\n");
+    assert_eq!(fs::read_to_string(&setup).expect("the other"), "reset #> hub\n");
+}
+
 #[test]
 fn check_and_bless_exclude_what_makes_no_sense_beside_them() {
     for (words, part) in [

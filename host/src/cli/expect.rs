@@ -58,6 +58,11 @@ impl Expectations {
         self.entries.is_empty()
     }
 
+    /// Whether none stands in the trace itself, whatever the files have that it includes.
+    pub fn is_all_included(&self) -> bool {
+        self.entries.iter().all(|entry| entry.place.file != 0)
+    }
+
     /// Takes note of a record, counted from 0 in the whole list.
     pub fn note(&mut self, index: usize, step: &Step<'_, '_>) {
         while self.entries.get(self.next).is_some_and(|entry| entry.records.end <= index) {

@@ -182,7 +182,7 @@ impl Task {
             Task::Check(_) | Task::Bless { .. } => Expectations::of(list)?,
         };
         match self {
-            Task::Bless { .. } if own.is_empty() => Ok(Expectations::for_each_statement(list)),
+            Task::Bless { .. } if own.is_all_included() => Ok(Expectations::for_each_statement(list)),
             Task::Check(_) if own.is_empty() => Err(Failure::input(format!(
                 "{}: expected a trace with expectations ('#>'), found none; --bless writes them",
                 list.name()
