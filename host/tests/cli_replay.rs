@@ -34,6 +34,18 @@ fn a_trace_is_a_test() {
     assert_eq!((unmet.status, unmet.text.as_str(), unmet.errors.as_str()), (UNMET, diff, ""));
 }
 
+/// A value of protected memory that is not as expected is shown only where that is asked for.
+#[test]
+fn an_unmet_expectation_shows_protected_values_if_asked() {
+    let trace = format!("{KEY}#> memory A0000h = 00000000h\n");
+    for (options, came) in [(&[][..], "\u{B7}\u{B7}"), (&["--show-protected"], "4B455921h")] {
+        let run = run_with(&[&["replay", "--check", "-"], options].concat(), trace.as_bytes());
+        assert_eq!(run.status, UNMET);
+        let diff = format!(":12: smm read4 A0000h\n- memory A0000h = 00000000h\n+ memory A0000h = {came}\n");
+        assert!(run.text.contains(&diff), "{}", run.text);
+    }
+}
+
 /// Expectations are compared whole; only the reason may be left out.
 #[test]
 fn an_expectation_is_exact() {

@@ -81,14 +81,14 @@ impl Expectations {
     }
 
     /// Says which expectations are not met, and how many; whether all are.
-    pub fn compare(&self, list: &List, style: Style, out: &mut impl Write) -> io::Result<bool> {
+    pub fn compare(&self, list: &List, secrets: Secrets, style: Style, out: &mut impl Write) -> io::Result<bool> {
         let mut unmet = 0;
         for entry in self.entries.iter().filter(|entry| !entry.met()) {
             unmet += 1;
             let (file, line) = list.named(entry.place);
-            writeln!(out, "{}", style.bold(&format!("{file}:{line}: {}", entry.asked())))?;
+            writeln!(out, "{}", style.bold(&format!("{file}:{line}: {}", entry.asked(secrets))))?;
             writeln!(out, "{}", style.bad(&format!("- {}", entry.text)))?;
-            writeln!(out, "{}", style.good(&format!("+ {}", entry.came(Secrets::Hidden))))?;
+            writeln!(out, "{}", style.good(&format!("+ {}", entry.came(secrets))))?;
         }
         let all = numbers::counted(self.entries.len() as u64, "expectation");
         match unmet {
@@ -148,8 +148,16 @@ impl Entry {
         self.found.as_ref().is_some_and(meets)
     }
 
-    fn asked(&self) -> &str {
-        self.found.as_ref().map_or("", |found| &found.hidden.asked)
+    /// What came.
+    fn told(&self, secrets: Secrets) -> Option<&Told> {
+        self.found.as_ref().map(|found| match secrets {
+            Secrets::Hidden => &found.hidden,
+            Secrets::Shown => &found.shown,
+        })
+    }
+
+    fn asked(&self, secrets: Secrets) -> &str {
+        self.told(secrets).map_or("", |told| &told.asked)
     }
 
     /// What came, with its reason if the expectation has one.
@@ -158,11 +166,7 @@ impl Entry {
     }
 
     fn as_it_came(&self, secrets: Secrets, reasons: bool) -> String {
-        let told = self.found.as_ref().map(|found| match secrets {
-            Secrets::Hidden => &found.hidden,
-            Secrets::Shown => &found.shown,
-        });
-        told.map(|told| told.expectation(reasons)).unwrap_or_default()
+        self.told(secrets).map(|told| told.expectation(reasons)).unwrap_or_default()
     }
 
     /// Its line with what came in place of what was expected, or added.

@@ -98,7 +98,7 @@ enum Task {
     /// They go to a file, and nothing is printed.
     Silent,
     /// They are compared with what the trace expects.
-    Check(Style),
+    Check { secrets: Secrets, style: Style },
     /// The trace is written anew with what came.
     Bless { sink: Sink, secrets: Secrets, reasons: bool },
 }
@@ -119,7 +119,7 @@ impl Task {
         }
         let style = Style::new(options.colour()?);
         let format = match given.first() {
-            Some(&"--check") => return Ok(Task::Check(style)),
+            Some(&"--check") => return Ok(Task::Check { secrets: options.secrets(), style }),
             Some(&"--bless") => {
                 let Source::File(path) = source else {
                     return Err(options.usage("--bless writes the trace anew: expected a file, found standard input"));
@@ -162,7 +162,9 @@ impl Task {
         text: Option<Vec<u8>>,
     ) -> Result<Status, Failure> {
         match (self, text) {
-            (Task::Check(style), _) if !expectations.compare(list, *style, out)? => return Ok(Status::Unmet),
+            (Task::Check { secrets, style }, _) if !expectations.compare(list, *secrets, *style, out)? => {
+                return Ok(Status::Unmet)
+            }
             (Task::Bless { sink, secrets, reasons }, Some(text)) => {
                 let not_text = |_| Failure::input(format!("{}: expected UTF-8, since it is written anew", list.name()));
                 let text = String::from_utf8(text).map_err(not_text)?;
@@ -179,11 +181,11 @@ impl Task {
     fn expectations(&self, list: &List) -> Result<Expectations, Failure> {
         let own = match self {
             Task::Print(_) | Task::Silent => return Ok(Expectations::default()),
-            Task::Check(_) | Task::Bless { .. } => Expectations::of(list)?,
+            Task::Check { .. } | Task::Bless { .. } => Expectations::of(list)?,
         };
         match self {
             Task::Bless { .. } if own.is_all_included() => Ok(Expectations::for_each_statement(list)),
-            Task::Check(_) if own.is_empty() => Err(Failure::input(format!(
+            Task::Check { .. } if own.is_empty() => Err(Failure::input(format!(
                 "{}: expected a trace with expectations ('#>'), found none; --bless writes them",
                 list.name()
             ))),
