@@ -143,12 +143,17 @@ fn bless_writes_a_trace_whose_included_files_alone_have_expectations() {
 }
 
 #[test]
-fn check_and_bless_exclude_what_makes_no_sense_beside_them() {
+fn options_exclude_what_makes_no_sense_beside_them() {
     for (words, part) in [
         (&["--check", "--bless", "x"][..], "--check and --bless exclude each other"),
         (&["--check", "--json", "x"], "--check and --json exclude each other"),
         (&["--json", "--csv", "x"], "--json and --csv exclude each other"),
         (&["--check", "--lines", "x"], "--lines is about what is printed, which --check replaces"),
+        (&["--answers", "y", "--only", "refused", "x"], "--only is about what is printed, which --answers replaces"),
+        (&["--answers", "y", "--lines", "x"], "--lines is about what is printed, which --answers replaces"),
+        (&["--json", "--answers", "-", "x"], "--answers - would stand among what is printed: give a file"),
+        (&["--csv", "--answers", "y", "--dump", "-", "x"], "--dump - would stand among what is printed"),
+        (&["--check", "--answers", "/dev/stdout", "x"], "--answers - would stand among what is printed"),
         (&["--reasons", "x"], "--reasons is about what --bless writes"),
         (&["--bless", "-"], "--bless writes the trace anew: expected a file"),
         (&["--redact", "x"], "--redact is about the dump"),

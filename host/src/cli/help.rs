@@ -68,7 +68,8 @@ content; '-' is standard input.
   --memory SIZE     main memory: a multiple of 8M, 8M to 512M
                     (default: the image's length, else 8M)
   --image FILE      memory at the start, from address 0; the rest is zero
-  --answers FILE    write the answers, 16 bytes each, and print nothing
+  --answers FILE    write the answers, 16 bytes each, and print nothing that no
+                    other option asks for
   --dump FILE       write memory as it is afterwards; for its owner alone if
                     it holds bytes that were protected
   --redact          with --dump: zeros where memory was protected

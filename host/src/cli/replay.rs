@@ -49,7 +49,7 @@ fn run_by(words: &[OsString], call: Call) -> Result<Status, Failure> {
     let form = options.form()?;
     let source = options.source()?;
     let task = Task::given(&options, &source)?;
-    let outputs = Outputs::given(&options)?;
+    let outputs = Outputs::given(&options, !matches!(task, Task::Silent))?;
     if source == Source::Standard && options.value("--image").is_some_and(|file| file == "-") {
         return Err(options.usage("FILE and --image cannot both be standard input"));
     }
@@ -111,8 +111,12 @@ impl Task {
             return Err(options.usage(format!("{first} and {second} exclude each other")));
         }
         let printed = ["--only", "--lines"].into_iter().find(|name| options.has(name));
-        if let (true, Some(name)) = (options.has("--check") || options.has("--bless"), printed) {
-            return Err(options.usage(format!("{name} is about what is printed, which {} replaces", given[0])));
+        let instead = match given.first() {
+            Some(&name) => Some(name).filter(|name| ["--check", "--bless"].contains(name)),
+            None => Some("--answers").filter(|name| options.has(name)),
+        };
+        if let (Some(name), Some(instead)) = (printed, instead) {
+            return Err(options.usage(format!("{name} is about what is printed, which {instead} replaces")));
         }
         if options.has("--reasons") && !options.has("--bless") {
             return Err(options.usage("--reasons is about what --bless writes"));
@@ -254,7 +258,8 @@ impl Outputs {
         self.answers.is_none() && self.dump.is_none()
     }
 
-    fn given(options: &Options) -> Result<Outputs, Failure> {
+    /// `printed` says that something is printed beside them.
+    fn given(options: &Options, printed: bool) -> Result<Outputs, Failure> {
         let outputs = Outputs {
             answers: options.value("--answers").map(Sink::named),
             dump: options.value("--dump").map(Sink::named),
@@ -263,14 +268,18 @@ impl Outputs {
         if outputs.redact && outputs.dump.is_none() {
             return Err(options.usage("--redact is about the dump: give --dump FILE"));
         }
-        let first = outputs.answers.as_ref().unwrap_or(&Sink::Standard);
-        if outputs.dump.as_ref().is_some_and(|dump| dump.same(first)) {
-            return Err(options.usage(match (&outputs.answers, &outputs.dump) {
-                (Some(_), _) => "--answers and --dump name the same file",
-                (None, Some(Sink::Standard)) => {
-                    "--dump - needs --answers FILE, since the answers are printed otherwise"
+        if outputs.answers.as_ref().zip(outputs.dump.as_ref()).is_some_and(|(answers, dump)| dump.same(answers)) {
+            return Err(options.usage("--answers and --dump name the same file"));
+        }
+        let both = [("--answers", &outputs.answers), ("--dump", &outputs.dump)];
+        let among = |(_, sink): &(&str, &Option<Sink>)| sink.as_ref().is_some_and(|sink| sink.same(&Sink::Standard));
+        if let Some((name, sink)) = both.into_iter().find(among).filter(|_| printed) {
+            return Err(options.usage(match sink {
+                Some(Sink::Standard) if outputs.answers.is_none() => {
+                    "--dump - needs --answers FILE, since the answers are printed otherwise".to_string()
                 }
-                (None, _) => "--dump names the file that the answers are printed to",
+                Some(Sink::Standard) => format!("{name} - would stand among what is printed: give a file"),
+                _ => format!("{name} names the file that the answers are printed to"),
             }));
         }
         let standard = [&outputs.answers, &outputs.dump].contains(&&Some(Sink::Standard));
