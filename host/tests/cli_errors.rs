@@ -3,7 +3,7 @@
 
 mod cli;
 
-use cli::{examples, folder, names, run, run_with, word, FILE, INPUT, USAGE};
+use cli::{examples, folder, names, run, run_with, word, DONE, FILE, INPUT, USAGE};
 use std::fs;
 
 #[test]
@@ -117,9 +117,23 @@ fn the_wrong_form_is_told() {
     let records = run_with(&["asm", "-"], &trace).out;
     let asm = run_with(&["asm", "-"], &records);
     assert_eq!(asm.status, INPUT);
-    assert!(asm.errors.contains("standard input:1:1: expected an access"), "{}", asm.errors);
+    let lists =
+        "mitrophel: standard input: expected a text trace, found the binary form, which 'mitrophel disasm' lists";
+    assert_eq!(asm.errors, lists, "nothing of the records is shown: they may hold a key");
     let disasm = run_with(&["disasm", "-"], &trace);
     assert_eq!(disasm.status, INPUT);
+    let makes = "standard input: warning: has no control characters, as a text trace has none; 'mitrophel asm' makes";
+    assert!(disasm.errors.starts_with(makes), "{}", disasm.errors);
+    let listed = run_with(&["disasm", "-"], b"read4 1000h #16\n");
+    assert_eq!(listed.status, DONE, "any bytes are a list");
+    assert!(listed.errors.starts_with(makes) && listed.text.starts_with("raw 72 65 61 64 34 "), "{}", listed.text);
+    let file = word(&folder("wrong-form").join("list"));
+    fs::write(&file, &records).expect("a list");
+    for option in ["--check", "--bless"] {
+        let run = run(&["replay", option, &file]);
+        assert_eq!(run.status, INPUT, "{option}");
+        assert!(run.errors.contains("expected a text trace, since '#>' stands in it, found the bin"), "{}", run.errors);
+    }
     let text = run_with(&["replay", "--text", "-"], &records);
     assert_eq!(text.status, INPUT);
     assert!(!text.errors.contains('\u{0}'), "control characters are not shown");

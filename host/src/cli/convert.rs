@@ -4,7 +4,7 @@ use super::args::Grammar;
 use super::failure::{Failure, Status};
 use super::files::{self, Sink};
 use super::listing::Lister;
-use super::load::{Form, List};
+use super::load::List;
 use std::ffi::OsString;
 use std::io::{self, IsTerminal};
 
@@ -25,7 +25,7 @@ pub fn asm(words: &[OsString]) -> Result<Status, Failure> {
     if sink == Sink::Standard && io::stdout().is_terminal() {
         return Err(options.usage("records are no text for a terminal: give --output FILE, or pipe them"));
     }
-    let list = List::read(&source, Some(Form::Text))?;
+    let list = List::read_trace(&source)?;
     files::save(&sink, &list.records)?;
     Ok(Status::Done)
 }
@@ -35,7 +35,7 @@ pub fn disasm(words: &[OsString]) -> Result<Status, Failure> {
     let options = DISASM.parse(words)?;
     let source = options.source()?;
     let sink = options.value("--output").map_or(Sink::Standard, Sink::named);
-    let list = List::read(&source, Some(Form::Binary))?;
+    let list = List::read_records(&source)?;
     let lister = Lister {
         macros: !options.has("--no-macros"),
         comments: !options.has("--no-comments"),

@@ -66,6 +66,32 @@ impl List {
         }
     }
 
+    /// Reads the text trace that a source must be. Records are refused by their form, and nothing of them is
+    /// told, since they may hold a key.
+    pub fn read_trace(source: &Source) -> Result<List, Failure> {
+        let bytes = source.read()?;
+        if bytes[..bytes.len().min(FORM_BYTES)].contains(&0) {
+            let found = "expected a text trace, found the binary form, which 'mitrophel disasm' lists";
+            return Err(Failure::input(format!("{}: {found}", source.name())));
+        }
+        List::text(source, &bytes)
+    }
+
+    /// Reads the records that a source must be.
+    pub fn read_records(source: &Source) -> Result<List, Failure> {
+        let bytes = source.read()?;
+        if Form::of(&bytes) == Form::Text && !bytes.is_empty() {
+            let found = "has no control characters, as a text trace has none; 'mitrophel asm' makes records of one";
+            complain(&format!("{}: warning: {found}", source.name()));
+        }
+        List::binary(source.name(), bytes)
+    }
+
+    /// Whether it was a text trace, or may have been one: an empty list has no form.
+    pub fn is_text(&self) -> bool {
+        !self.places.is_empty() || self.records.is_empty()
+    }
+
     /// The text trace that a source is.
     pub fn of_text(input: &mut Input) -> Result<List, Failure> {
         input.fill_whole()?;

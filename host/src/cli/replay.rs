@@ -185,6 +185,10 @@ impl Task {
     fn expectations(&self, list: &List) -> Result<Expectations, Failure> {
         let own = match self {
             Task::Print(_) | Task::Silent => return Ok(Expectations::default()),
+            Task::Check { .. } | Task::Bless { .. } if !list.is_text() => {
+                let found = "expected a text trace, since '#>' stands in it, found the binary form";
+                return Err(Failure::input(format!("{}: {found}", list.name())));
+            }
             Task::Check { .. } | Task::Bless { .. } => Expectations::of(list)?,
         };
         match self {
