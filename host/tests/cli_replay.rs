@@ -185,6 +185,33 @@ fn values_of_protected_memory_are_not_shown() {
     assert!(open.text.contains("takes 00000007h") && open.text.contains("takes 00000008h"), "{}", open.text);
 }
 
+/// The key is put in its place before SMRAM protects it, is still there after a reset, and may be in a write that
+/// is refused.
+#[test]
+fn values_of_memory_that_is_protected_at_some_time_are_not_shown() {
+    let before = "config write dev0.SMRAM 44h\nwrite4 A0000h 4B455921h\nread4 A0000h\n";
+    let refused = "config write dev0.SMRAM 4Ch\nsmm write3 A0000h 4B455921h\nsmm write4 BFFFEh 4B455921h\n\
+                   config write dev0.SMRAM 30h\nsmm write8 FEEA0000h 4B455921h\nwrite3 7FFFFCh 4B455921h\nsmm write4 9FFFEh 4B455921h\n\
+                   raw 05 04 01 00 00 00 0A 00 21 59 45 4B 01 00 00 00\n";
+    let after = "reset\nconfig write dev0.SMRAM 44h\nread4 A0000h\nmaster read4 A0000h\n\
+                 config write dev1.MMADR F0000000h\nconfig write dev1.PCICMD 2\nentry 0 A0000h\nwrite PGTBL_CTL 1\n\
+                 write LP_RING_TAIL 8\nwrite LP_RING_LENGTH 1\nrun 1\n";
+    let trace = format!("{before}{refused}{after}");
+    for form in [&[][..], &["--json"], &["--csv"]] {
+        let hidden = run_with(&[&["replay", "-"], form].concat(), trace.as_bytes());
+        assert_eq!(hidden.status, DONE, "{}", hidden.errors);
+        for key in ["4B455921", "1262836001", "21 59 45 4B"] {
+            assert!(!hidden.text.contains(key), "{form:?}: {}", hidden.text);
+        }
+        let shown = run_with(&[&["replay", "--show-protected", "-"], form].concat(), trace.as_bytes());
+        assert!(shown.text.matches("4B455921h").count() >= 10, "{form:?}: {}", shown.text);
+    }
+    let run = run_with(&["replay", "-"], trace.as_bytes());
+    assert!(run.text.contains("refused 12: word \u{B7}\u{B7} is no instruction"), "{}", run.text);
+    assert!(run.text.contains("smm write8 FEEA0000h \u{B7}\u{B7}"), "{}", run.text);
+    assert!(run.text.contains("raw 05 04 01 00 00 00 0A 00 \u{B7}\u{B7} \u{B7}\u{B7} "), "{}", run.text);
+}
+
 #[test]
 fn a_dump_is_whole_and_private_or_redacted_and_open() {
     let folder = folder("dump");

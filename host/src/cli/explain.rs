@@ -42,7 +42,7 @@ pub struct Told {
 
 impl Told {
     pub fn of(step: &Step<'_, '_>, secrets: Secrets) -> Told {
-        let hidden = step.protected && secrets == Secrets::Hidden;
+        let hidden = step.secret && secrets == Secrets::Hidden;
         let (tone, outcome) = outcome(step, hidden);
         let asked = asked(&step.record, step.bases, hidden);
         Told { tone, asked, outcome, reason: reason(step), line: step.answer.line != 0 }
@@ -74,7 +74,7 @@ fn outcome(step: &Step<'_, '_>, hidden: bool) -> (Tone, String) {
     let (kind, target) = (step.record.kind(), answer.target());
     if let Some(refusal) = answer.refusal() {
         let end = if has_run(step) { format!(" ({})", run_end(step)) } else { String::new() };
-        return (Tone::Refused, format!("refused {}: {}{end}", refusal.code(), why(step, refusal)));
+        return (Tone::Refused, format!("refused {}: {}{end}", refusal.code(), why(step, refusal, hidden)));
     }
     match (kind, target) {
         (Some(Kind::Run), _) => {
@@ -138,7 +138,7 @@ fn mapped(step: &Step<'_, '_>) -> String {
 }
 
 /// Why a record was refused, with the numbers that decided.
-fn why(step: &Step<'_, '_>, refusal: Refusal) -> String {
+fn why(step: &Step<'_, '_>, refusal: Refusal, hidden: bool) -> String {
     match refusal {
         Refusal::Layout => words::layout_fault(&step.record),
         Refusal::Width => words::width_fault(&step.record),
@@ -150,6 +150,7 @@ fn why(step: &Step<'_, '_>, refusal: Refusal) -> String {
             format!("parser address {:X}h is at or above the window size, {size}", fetch_offset(step))
         }
         Refusal::RingOffset => ring_offset(step),
+        Refusal::UnknownInstruction if hidden => format!("word {REDACTED} is no instruction"),
         Refusal::UnknownInstruction => unknown_instruction(step),
         _ => match graphics_offset(step) {
             Some(offset) => bad_entry(step.hub, refusal, offset),

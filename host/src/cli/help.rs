@@ -63,7 +63,8 @@ content; '-' is standard input.
   --lines           print the trace's line beside the record
   --json            print one JSON object for each record
   --csv             print comma-separated values, names in the first line
-  --show-protected  show values of protected memory; they are '\u{B7}\u{B7}' otherwise
+  --show-protected  show values of memory that is protected at some time of the
+                    replay; they are '\u{B7}\u{B7}' otherwise
   --board NAME      82810 (default) or dc100
   --memory SIZE     main memory: a multiple of 8M, 8M to 512M
                     (default: the image's length, else 8M)

@@ -10,7 +10,8 @@ use super::names::Bases;
 use mitrophel::call::gmch_replay;
 use mitrophel::record::{self, RECORD_BYTES};
 use mitrophel::reference::{Gmch, Observer, Rule, Touch, TABLE_WORDS};
-use mitrophel::{Answer, Board, Kind, Record, Target};
+use mitrophel::{Answer, Board, Kind, Record, Refusal, Target};
+use std::ops::Range;
 
 /// The proved call, or what a test puts in its place.
 pub type Call = fn(u32, &mut [u8], &[u8], &mut [u8]) -> u32;
@@ -22,6 +23,8 @@ pub struct Heard {
     rule: Option<Rule>,
     /// It read or wrote protected memory.
     protected: bool,
+    /// The last place in memory that it read or wrote.
+    last: Option<u32>,
 }
 
 impl Observer for Heard {
@@ -31,6 +34,7 @@ impl Observer for Heard {
 
     fn touched(&mut self, touch: Touch) {
         self.protected |= touch.protected;
+        self.last = Some(touch.address);
     }
 }
 
@@ -42,8 +46,11 @@ pub struct Step<'a, 'm> {
     pub answer: Answer,
     /// The rule that routed it, if it came so far.
     pub rule: Option<Rule>,
-    /// It read or wrote protected memory, so its value is not for everybody.
+    /// It read or wrote protected memory.
     pub protected: bool,
+    /// Its value is not for everybody: it is of protected memory, of memory that is guarded, or was to be
+    /// written there.
+    pub secret: bool,
     /// What the names stood for when the record came.
     pub bases: Bases,
     /// What the register holds that the record wrote.
@@ -60,6 +67,8 @@ pub struct Pair {
     beside: Vec<u8>,
     /// A disagreement is told without values.
     hidden: bool,
+    /// Memory whose values are never for everybody.
+    guarded: Vec<Range<u32>>,
 }
 
 impl Pair {
@@ -71,12 +80,17 @@ impl Pair {
     /// The same, with this call in the proved one's place.
     pub fn by(board: Board, memory: [Vec<u8>; 2], call: Call) -> Pair {
         let [proved, beside] = memory;
-        Pair { board, call, proved, beside, hidden: false }
+        Pair { board, call, proved, beside, hidden: false, guarded: Vec::new() }
     }
 
     /// The same, but a disagreement is told without values, any of which may be a key's.
     pub fn without_values(self) -> Pair {
         Pair { hidden: true, ..self }
+    }
+
+    /// The same, but values of this memory are never for everybody, whatever SMRAM protects.
+    pub fn guarding(self, guarded: Vec<Range<u32>>) -> Pair {
+        Pair { guarded, ..self }
     }
 
     /// The memory as the proved call left it.
@@ -122,15 +136,17 @@ impl Pair {
         for (index, (record, answer)) in record::decode(records).zip(record::decode_answers(&answers)).enumerate() {
             let bases = Bases::of(&hub);
             let beside = hub.answer(&record);
-            let Heard { rule, protected } = std::mem::take(hub.observer());
+            let heard = std::mem::take(hub.observer());
+            let secret = is_secret(&hub, &self.guarded, &record, &answer, &heard);
+            let Heard { rule, protected, .. } = heard;
             if answer != beside {
                 // The proved call may have reached what the reference keeps shut.
                 let leaked = answer.target() == Some(Target::Memory) && hub.protected(answer.address);
-                let hidden = self.hidden || protected || leaked;
+                let hidden = self.hidden || secret || leaked;
                 return Err(different_answers(index, &record, bases, [&answer, &beside], hidden));
             }
             let now = register_now(&mut hub, &record, &answer);
-            each(&Step { index, record, answer, rule, protected, bases, now, hub: &hub })?;
+            each(&Step { index, record, answer, rule, protected, secret, bases, now, hub: &hub })?;
         }
         let seen = look(&hub);
         self.compare_memory()?;
@@ -144,6 +160,24 @@ impl Pair {
         let at = self.proved.iter().zip(&self.beside).position(|(proved, beside)| proved != beside).unwrap_or_default();
         // The bytes may be the key's, and the message is to be sent to somebody.
         Err(Failure::disagreement(format!("{LOUD} about memory: byte {at:X}h differs\n{ADVICE}")))
+    }
+}
+
+/// Whether a record's value is of protected or guarded memory. A write that is refused has a value too, and so
+/// has the word that the parser does not know.
+fn is_secret(hub: &Gmch<'_, Heard>, guarded: &[Range<u32>], record: &Record, answer: &Answer, heard: &Heard) -> bool {
+    let guards = |address| hub.protected(address) || guarded.iter().any(|range| range.contains(&address));
+    match record.kind() {
+        Some(Kind::Run) if answer.refusal() != Some(Refusal::UnknownInstruction) => heard.protected,
+        Some(kind) if kind.is_write() && answer.code != 0 => {
+            let start = match record.address {
+                // The HSEG stands for A0000h to BFFFFh.
+                high @ 0xFEEA_0000..=0xFEEB_FFFF => high - 0xFEEA_0000 + 0xA_0000,
+                address => address,
+            };
+            guards(start) || guards(start.saturating_add(3))
+        }
+        _ => heard.protected || heard.last.is_some_and(guards),
     }
 }
 

@@ -13,7 +13,9 @@ use super::report::{Entry, Format, Report};
 use super::style::Style;
 use super::system;
 use mitrophel::call::gmch_replay;
-use mitrophel::record::RECORD_BYTES;
+use mitrophel::record::{self, RECORD_BYTES};
+use mitrophel::reference::{Gmch, TABLE_WORDS};
+use mitrophel::{Board, Kind, Record};
 use std::ffi::OsString;
 use std::io::{self, IsTerminal, Write};
 use std::mem;
@@ -60,10 +62,10 @@ fn run_by(words: &[OsString], call: Call) -> Result<Status, Failure> {
     let calls = list.calls()?;
     let mut expectations = task.expectations(&list)?;
 
-    let mut pair = Pair::by(board, [memory.fresh(), memory.fresh()], call);
+    let mut guarded = Guarded::of(board, memory.length(), &list);
+    let mut pair = Pair::by(board, [memory.fresh(), memory.fresh()], call).guarding(guarded.ranges.clone());
     let mut out = io::BufWriter::new(io::stdout().lock());
     let mut answers = Vec::new();
-    let mut guarded = Guarded::default();
     let mut printed = task.start(&mut out);
     for call in calls {
         let first = call.start / RECORD_BYTES;
@@ -216,28 +218,39 @@ impl Printer {
             return Ok(());
         }
         let told = &Told::of(step, self.secrets);
-        let hidden = step.protected && self.secrets == Secrets::Hidden;
+        let hidden = step.secret && self.secrets == Secrets::Hidden;
         self.report.record(out, &Entry { number: index + 1, place: list.line(index), step, told, hidden })
     }
 }
 
 /// What of a replay is not for everybody.
-#[derive(Default)]
 struct Guarded {
-    /// Memory that was protected at some time.
+    /// Memory that is protected at some time. A key is put there before, and is still there after a reset.
     ranges: Vec<Range<u32>>,
-    /// An answer holds a value of protected memory.
+    /// An answer holds a value of it.
     answers: bool,
 }
 
 impl Guarded {
-    fn note(&mut self, step: &Step<'_, '_>) {
-        self.answers |= step.protected && step.record.kind().is_some_and(|kind| !kind.is_write());
-        for range in step.hub.protected_ranges() {
-            if !range.is_empty() && !self.ranges.contains(&range) {
-                self.ranges.push(range);
+    /// Only configuration writes and resets decide what is protected.
+    fn of(board: Board, length: usize, list: &List) -> Guarded {
+        let (mut memory, mut table) = (vec![0; length], Box::new([0; TABLE_WORDS]));
+        let mut hub = Gmch::new(board, &mut memory, &mut table).expect("a memory that a call takes");
+        let mut ranges = Vec::new();
+        let decides = |record: &Record| matches!(record.kind(), Some(Kind::IoWrite | Kind::Reset));
+        for record in record::decode(&list.records).filter(decides) {
+            hub.answer(&record);
+            for range in hub.protected_ranges() {
+                if !range.is_empty() && !ranges.contains(&range) {
+                    ranges.push(range);
+                }
             }
         }
+        Guarded { ranges, answers: false }
+    }
+
+    fn note(&mut self, step: &Step<'_, '_>) {
+        self.answers |= step.secret && step.record.kind().is_some_and(|kind| !kind.is_write());
     }
 }
 

@@ -55,8 +55,18 @@ pub const REDACTED: &str = "\u{B7}\u{B7}";
 pub fn redacted(record: &Record, bases: Bases) -> String {
     let statement = statement(record, bases);
     let data = numbers::data(record.data, record.width);
-    let write = record.keeps_layout() && record.kind().is_some_and(Kind::is_write);
-    match statement.strip_suffix(&data).filter(|_| write) {
+    if !record.kind().is_some_and(Kind::is_write) {
+        return statement;
+    }
+    if !record.keeps_layout() {
+        // Bytes 8 to 11 are the data.
+        let words = statement.split(' ').enumerate();
+        return words
+            .map(|(at, word)| if (9..13).contains(&at) { REDACTED } else { word })
+            .collect::<Vec<_>>()
+            .join(" ");
+    }
+    match statement.strip_suffix(&data) {
         Some(start) => format!("{start}{REDACTED}"),
         None => statement,
     }
