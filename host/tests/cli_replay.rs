@@ -321,6 +321,15 @@ fn lines_stand_beside_the_records() {
     let run = run_with(&["replay", "--lines", "-"], b"\nreset\nconfig read dev0.VID\n");
     let starts: Vec<&str> = run.text.lines().map(|line| &line[..15]).collect();
     assert_eq!(starts, ["     1      2  ", "     2      3  ", "     3      3  "]);
+
+    // A line of an included file has its name.
+    let folder = folder("lines");
+    let [trace, setup] = ["desk.trace", "setup.trace"].map(|name| folder.join(name));
+    fs::write(&setup, "\n\nreset\n").expect("a trace");
+    fs::write(&trace, "include setup.trace\nreset\n").expect("a trace");
+    let text = cli::run(&["replay", "--lines", &word(&trace)]).text;
+    let place = format!("     1 {}:3  reset  ", setup.display());
+    assert!(text.starts_with(&place) && text.contains("\n     2      2  reset  "), "{text}");
 }
 
 /// The two runs of demand 3 as they are printed: equal, since the key is not shown.

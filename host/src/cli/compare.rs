@@ -201,7 +201,7 @@ impl Report<'_> {
         let columns = format!("{:>8} {:>7}  {:<36}{:>12}{:>12}", "record", "line", "statement", RUNS[0], RUNS[1]);
         writeln!(out, "{}", self.style.dim(&columns))?;
         for seen in seen.iter().take(most) {
-            let line = self.list.line(seen.index).map_or("-".to_string(), |(_, line)| grouped(line.into()));
+            let line = self.list.short_line(seen.index);
             let [first, second] = self.values(seen);
             let number = grouped(seen.index as u64 + 1);
             writeln!(out, "{number:>8} {line:>7}  {:<36}{first:>12}{second:>12}", self.statement(seen.index))?;

@@ -128,6 +128,15 @@ impl List {
         self.places.get(index).map(|place| self.named(*place))
     }
 
+    /// The line of a record, from 0, after the file's name if it is not the trace's own; `-` in the binary form.
+    pub fn short_line(&self, index: usize) -> String {
+        match self.places.get(index) {
+            Some(place) if place.file == 0 => place.line.to_string(),
+            Some(_) => self.place(index),
+            None => "-".to_string(),
+        }
+    }
+
     /// The name of a place's file, and its line.
     pub fn named(&self, place: Place) -> (&str, u32) {
         (&self.files[place.file as usize], place.line)

@@ -139,8 +139,9 @@ impl Task {
             None => Format::Text,
         };
         let columns = system::columns(1).filter(|_| io::stdout().is_terminal());
-        let report = Report { format, style, columns, lines: options.has("--lines") };
-        Ok(Task::Print(Printer { report, only: Only::given(options)?, secrets: options.secrets() }))
+        let report = Report { format, style, columns };
+        let (lines, secrets) = (options.has("--lines"), options.secrets());
+        Ok(Task::Print(Printer { report, only: Only::given(options)?, lines, secrets }))
     }
 
     /// What is printed before the first record.
@@ -208,6 +209,8 @@ impl Task {
 struct Printer {
     report: Report,
     only: Only,
+    /// Whether the trace's line stands beside the record.
+    lines: bool,
     secrets: Secrets,
 }
 
@@ -219,7 +222,8 @@ impl Printer {
         }
         let told = &Told::of(step, self.secrets);
         let hidden = step.secret && self.secrets == Secrets::Hidden;
-        self.report.record(out, &Entry { number: index + 1, place: list.line(index), step, told, hidden })
+        let line = self.lines.then(|| list.short_line(index));
+        self.report.record(out, &Entry { number: index + 1, place: list.line(index), line, step, told, hidden })
     }
 }
 

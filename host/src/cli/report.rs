@@ -23,6 +23,8 @@ pub struct Entry<'a, 's, 'm> {
     pub number: usize,
     /// The trace's file and line; none for the binary form.
     pub place: Option<(&'a str, u32)>,
+    /// The line as it stands beside the number, where that is asked for.
+    pub line: Option<String>,
     pub step: &'a Step<'s, 'm>,
     pub told: &'a Told,
     /// Its values are not shown.
@@ -35,8 +37,6 @@ pub struct Report {
     pub style: Style,
     /// The terminal's width; none where lines may be of any length.
     pub columns: Option<usize>,
-    /// Whether the trace's line stands beside the record.
-    pub lines: bool,
 }
 
 impl Report {
@@ -58,8 +58,7 @@ impl Report {
 
     fn text(&self, out: &mut impl Write, entry: &Entry<'_, '_, '_>) -> io::Result<()> {
         let mut lead = format!("{:>6}", entry.number);
-        if self.lines {
-            let line = entry.place.map_or("-".to_string(), |(_, line)| line.to_string());
+        if let Some(line) = &entry.line {
             lead.push_str(&format!(" {line:>6}"));
         }
         let (asked, outcome) = if self.columns.is_some_and(|columns| columns < WIDE) { NARROW } else { COLUMNS };
@@ -168,7 +167,7 @@ pub const FIELDS: [&str; 19] = [
 ];
 
 fn fields(entry: &Entry<'_, '_, '_>) -> [Value; FIELDS.len()] {
-    let Entry { number, place, step, told, hidden } = entry;
+    let Entry { number, place, step, told, hidden, .. } = entry;
     let (record, answer) = (&step.record, &step.answer);
     let text = |text: &str| Value::Text(text.to_string());
     let unless_hidden = |value| if *hidden { Value::None } else { Value::Number(value) };
