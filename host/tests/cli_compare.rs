@@ -129,7 +129,8 @@ fn differences_before_the_lock_are_few() {
 #[test]
 fn a_trace_must_set_the_lock_over_some_memory() {
     let run = run_with(&["compare", "-"], b"config write dev0.SMRAM BCh\nsmm read4 A0000h\n");
-    let message = "mitrophel: standard input: demand 3 speaks of states with the lock set; the trace never sets it";
+    let message = "mitrophel: standard input: expected a write that sets SMRAM's lock, bit 1, such as \
+                   'config write dev0.SMRAM 4Eh', found none";
     assert_eq!((run.status, run.text.as_str(), run.errors.as_str()), (INPUT, "", message));
     let run = run_with(&["compare", "-"], b"config write dev0.SMRAM 42h\n");
     assert_eq!((run.status, run.text.as_str()), (INPUT, ""));

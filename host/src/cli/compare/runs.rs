@@ -110,7 +110,8 @@ impl Scope {
             })?);
         }
         let refused = |why: &str| Failure::input(format!("{}: {why}", list.name()));
-        let missing = || refused("demand 3 speaks of states with the lock set; the trace never sets it");
+        let lock = "expected a write that sets SMRAM's lock, bit 1, such as 'config write dev0.SMRAM 4Eh', found none";
+        let missing = || refused(lock);
         let (lock, smram, protected) = locked.ok_or_else(missing)?;
         if protected.0.is_empty() {
             return Err(refused("the lock is set with no memory protected: there is no place for a key"));
