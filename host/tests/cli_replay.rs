@@ -71,9 +71,33 @@ fn an_expectation_speaks_of_all_records_of_its_line() {
     let three = check(&format!("{each}#> dev0.VID = 8086h\n"));
     assert_eq!(three.status, INPUT);
     assert!(three.errors.contains(":1: expected one expectation, or one for each"), "{}", three.errors);
-    // The second of four entries is written where only two bytes are, and refused.
-    let refused = "raw 05 04 00 00 00 00 00 00 00 00 00 00 01 00 00 00 #> refused 13: bytes 12-15 are 1h, not 0\n";
-    assert_eq!(check(refused).status, DONE);
+    // The first two bytes are half of FENCE7, the next four PGTBL_CTL.
+    let half = "refused 10: 2 bytes at offset 201Eh, not FENCE7 as it is, 4 bytes at 201Ch";
+    let refused = check(&format!("{KEY}bytes MMIO+201Eh 0 0 1 0 0 0 #> {half}\n"));
+    assert_eq!(refused.status, DONE, "{}", refused.text);
+}
+
+/// An `include` speaks of all that it includes, whatever the included lines expect.
+#[test]
+fn an_expectation_of_an_include_speaks_of_all_records_of_the_file() {
+    let folder = folder("check-include");
+    let check = |included: &str, expected: &str| {
+        fs::write(folder.join("inner"), included).expect("a trace");
+        fs::write(folder.join("outer"), format!("include inner  #> {expected}\nread4 0\n")).expect("a trace");
+        run(&["replay", "--check", &word(&folder.join("outer"))])
+    };
+    let refused = "refused 2: width 3 is none of 1, 2 and 4";
+    let zero = "memory 0h = 00000000h";
+    let first = check(&format!("read3 0\nread4 0  #> {zero}\nread4 0\n"), refused);
+    assert_eq!(first.status, DONE, "{}", first.text);
+    let last = check(&format!("read4 0  #> {zero}\nreset\nread4 4\n"), "memory 4h = 00000000h");
+    assert_eq!(last.status, DONE, "{}", last.text);
+    // One line with as many records as the `include` itself.
+    let alone = check(&format!("read4 0  #> {zero}\n"), zero);
+    assert_eq!(alone.status, DONE, "{}{}", alone.text, alone.errors);
+    let select = "config read dev0.VID  #> dev0.VID = 8086h\n";
+    assert_eq!(check(select, "dev0.VID = 8086h").status, DONE);
+    assert_eq!(check(select, "CF8h is now 80000000h").status, UNMET);
 }
 
 #[test]

@@ -16,8 +16,12 @@ use std::ops::Range;
 #[derive(Default)]
 pub struct Expectations {
     entries: Vec<Entry>,
-    /// The entries before this one are done with.
-    next: usize,
+    /// The entries by the first of their records, and how many of them have begun. An `include` begins before
+    /// what it includes and stands after it.
+    order: Vec<usize>,
+    begun: usize,
+    /// Those that have begun and have records to come.
+    open: Vec<usize>,
 }
 
 struct Entry {
@@ -41,17 +45,24 @@ impl Expectations {
     pub fn of(list: &List) -> Result<Expectations, Failure> {
         let given = list.expectations();
         let mut entries = Vec::with_capacity(given.len());
-        for group in given.chunk_by(|a, b| a.records == b.records) {
+        // The one statement of an included file has the records of its `include`.
+        for group in given.chunk_by(|a, b| a.records == b.records && a.place.file == b.place.file) {
             entries.extend(group_entries(group).ok_or_else(|| uneven(list, group))?);
         }
-        Ok(Expectations { entries, next: 0 })
+        Ok(Expectations::new(entries))
     }
 
     /// One for each statement of the trace itself, still without a text.
     pub fn for_each_statement(list: &List) -> Expectations {
         let statements = list.statements();
         let entry = |(place, records)| Entry { place, records, text: String::new(), found: None };
-        Expectations { entries: statements.into_iter().map(entry).collect(), next: 0 }
+        Expectations::new(statements.into_iter().map(entry).collect())
+    }
+
+    fn new(entries: Vec<Entry>) -> Expectations {
+        let mut order: Vec<usize> = (0..entries.len()).collect();
+        order.sort_by_key(|&entry| entries[entry].records.start);
+        Expectations { entries, order, ..Expectations::default() }
     }
 
     pub fn is_empty(&self) -> bool {
@@ -63,19 +74,19 @@ impl Expectations {
         self.entries.iter().all(|entry| entry.place.file != 0)
     }
 
-    /// Takes note of a record, counted from 0 in the whole list.
+    /// Takes note of a record, counted from 0 in the whole list. All are noted, one after the other.
     pub fn note(&mut self, index: usize, step: &Step<'_, '_>) {
-        while self.entries.get(self.next).is_some_and(|entry| entry.records.end <= index) {
-            self.next += 1;
-        }
-        for entry in &mut self.entries[self.next..] {
-            if entry.records.start > index {
-                break;
-            }
-            let settled = entry.found.as_ref().is_some_and(|found| found.hidden.tone == Tone::Refused);
-            if !settled && entry.records.contains(&index) {
+        let entries = &mut self.entries;
+        let begins = |entry: &&usize| entries[**entry].records.start <= index;
+        let begin: Vec<usize> = self.order[self.begun..].iter().take_while(begins).copied().collect();
+        self.begun += begin.len();
+        self.open.extend(begin);
+        self.open.retain(|&entry| entries[entry].records.end > index);
+        for &entry in &self.open {
+            let found = &mut entries[entry].found;
+            if found.as_ref().is_none_or(|found| found.hidden.tone != Tone::Refused) {
                 let [hidden, shown] = [Secrets::Hidden, Secrets::Shown].map(|secrets| Told::of(step, secrets));
-                entry.found = Some(Found { hidden, shown });
+                *found = Some(Found { hidden, shown });
             }
         }
     }
