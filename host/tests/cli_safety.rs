@@ -354,6 +354,7 @@ fn messages_hold_no_control_characters_of_names_and_words() {
         (&["replay", "--board=\x1b[2J", "-"], "found '\\x1b[2J'"),
         (&["replay", "--memory=\x1b[2J", "-"], "found '\\x1b[2J'"),
         (&["audit", "--deny=\x1b[2J", "-"], "found '\\x1b[2J'"),
+        (&["replay", "--only=\x1b[2J", "-"], "found '\\x1b[2J'"),
         (&["replay", "a", "\x1b[2J"], "found '\\x1b[2J' too"),
         (&["demo", "\x1b[2J"], "found '\\x1b[2J'"),
     ] {
@@ -364,6 +365,8 @@ fn messages_hold_no_control_characters_of_names_and_words() {
         assert!(run.errors.contains(part), "{words:?}: {:?}", run.errors);
         assert!(!run.errors.contains('\x1b'), "{words:?}: {:?}", run.errors);
     }
+    let check = run_with(&["replay", "--check", "-"], "reset #> \u{9b}2J\n".as_bytes());
+    assert!(check.text.contains("\n- \\xc2\\x9b2J\n+ registers"), "{:?}", check.text);
 }
 
 /// The program with so many bytes of address space.

@@ -2,7 +2,7 @@
 //! (`--bless`).
 
 use super::explain::{Secrets, Told, Tone};
-use super::failure::Failure;
+use super::failure::{shown, Failure};
 use super::load::List;
 use super::numbers;
 use super::pair::Step;
@@ -98,7 +98,7 @@ impl Expectations {
             unmet += 1;
             let (file, line) = list.named(entry.place);
             writeln!(out, "{}", style.bold(&format!("{file}:{line}: {}", entry.asked(secrets))))?;
-            writeln!(out, "{}", style.bad(&format!("- {}", entry.text)))?;
+            writeln!(out, "{}", style.bad(&format!("- {}", shown(&entry.text))))?;
             writeln!(out, "{}", style.good(&format!("+ {}", entry.came(secrets))))?;
         }
         let all = numbers::counted(self.entries.len() as u64, "expectation");

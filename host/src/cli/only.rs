@@ -1,7 +1,7 @@
 //! `--only`: which records are told.
 
 use super::args::Options;
-use super::failure::Failure;
+use super::failure::{shown, Failure};
 use super::names;
 use super::pair::Step;
 use mitrophel::reference::Rule;
@@ -72,5 +72,6 @@ fn test(name: &str) -> Option<Test> {
 
 fn unknown(options: &Options, name: &str) -> Failure {
     let known: Vec<&str> = NAMES.iter().map(|(name, _)| *name).collect();
-    options.usage(format!("--only: expected {}, or a refusal's code or name, found '{name}'", known.join(", ")))
+    let (known, found) = (known.join(", "), shown(name));
+    options.usage(format!("--only: expected {known}, or a refusal's code or name, found '{found}'"))
 }
