@@ -4,6 +4,7 @@ use super::args::Options;
 use super::failure::{complain, shown, Failure, Status};
 use super::files::{Input, Source};
 use super::{numbers, pair, trace};
+use mitrophel::is_memory_length;
 use mitrophel::record::{MAX_RECORDS, RECORD_BYTES};
 use mitrophel::trace::{Assembled, Expectation, Place};
 use std::io;
@@ -225,27 +226,23 @@ pub struct Memory {
     image: Vec<u8>,
 }
 
-/// "a multiple of 8 MiB, 8 to 512 MiB"
-fn is_memory_length(length: u64) -> bool {
-    length.is_multiple_of(8 << 20) && (8 << 20..=MOST_MEMORY).contains(&length)
-}
-
-const MOST_MEMORY: u64 = 512 << 20;
+/// The longest memory.
+const MOST_MEMORY: usize = 512 << 20;
 
 const LENGTHS: &str = "a multiple of 8M from 8M to 512M";
 
 impl Memory {
     /// `--memory` and `--image`: a length, by default the image's or 8M, and what stands at address 0.
     pub fn given(options: &Options) -> Result<Memory, Failure> {
-        let length = options.size("--memory")?;
+        let length = options.size("--memory")?.map(|length| usize::try_from(length).unwrap_or(usize::MAX));
         if let Some(text) = options.value("--memory").filter(|_| !length.is_none_or(is_memory_length)) {
             return Err(options.usage(format!("--memory: expected {LENGTHS}, found '{}'", shown(text))));
         }
         let Some(file) = options.value("--image") else {
-            return Ok(Memory { length: length.unwrap_or(8 << 20) as usize, image: Vec::new() });
+            return Ok(Memory { length: length.unwrap_or(8 << 20), image: Vec::new() });
         };
         let source = Source::named(file);
-        let most = length.unwrap_or(MOST_MEMORY) as usize;
+        let most = length.unwrap_or(MOST_MEMORY);
         let image = source.read_within(most)?;
         let found = if image.len() > most { "more".to_string() } else { format!("{} bytes", image.len()) };
         let expected = format!("{}: expected an image of", source.name());
@@ -253,8 +250,8 @@ impl Memory {
             Some(length) if image.len() > most => {
                 Err(Failure::input(format!("{expected} at most {length} bytes, the memory's length, found {found}")))
             }
-            Some(length) => Ok(Memory { length: length as usize, image }),
-            None if is_memory_length(image.len() as u64) => Ok(Memory { length: image.len(), image }),
+            Some(length) => Ok(Memory { length, image }),
+            None if is_memory_length(image.len()) => Ok(Memory { length: image.len(), image }),
             None => Err(Failure::input(format!(
                 "{expected} {LENGTHS}, found {found}; with --memory a shorter one stands at address 0"
             ))),
