@@ -36,6 +36,7 @@ fn a_wrong_command_line_is_told_with_status_2() {
         (&["replay", "--text=yes", "-"], "--text takes no value"),
         (&["replay", "--color", "sometimes", "-"], "--color: expected auto, always or never, found 'sometimes'"),
         (&["replay", "--image", "-", "-"], "FILE and --image cannot both be standard input"),
+        (&["map", "--image", "-", "-"], "FILE and --image cannot both be standard input"),
         (&["replay", "--answers", "x", "--dump", "x", "-"], "--answers and --dump name the same file"),
         (&["replay", "--answers", "-", "--dump", "-", "-"], "--answers and --dump name the same file"),
         (&["replay", "--dump", "-", "-"], "--dump - needs --answers FILE"),

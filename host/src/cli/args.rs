@@ -35,6 +35,11 @@ pub const REPEATED: &[&str] = &["--deny", "--key", "--only"];
 /// The values of `--color`.
 pub const COLOURS: [(&str, Colour); 3] = [("auto", Colour::Auto), ("always", Colour::Always), ("never", Colour::Never)];
 
+/// What to say where standard input is named twice: by a command that has only these two to read, and by
+/// one that has more.
+pub const NOT_BOTH: &str = "FILE and --image cannot both be standard input";
+pub const ONLY_ONCE: &str = "standard input can be read only once";
+
 /// Short forms.
 pub const SHORT: &[(&str, &str)] = &[("-o", "--output")];
 
@@ -130,7 +135,7 @@ impl Options {
         usage(self.command, message.as_ref())
     }
 
-    /// The files, none given being an error where one is needed.
+    /// The files, as many as were given.
     pub fn sources(&self) -> Vec<Source> {
         self.files.iter().map(|file| Source::named(file)).collect()
     }
@@ -139,6 +144,17 @@ impl Options {
     pub fn source(&self) -> Result<Source, Failure> {
         let missing = || self.usage("expected a file ('-' is standard input)");
         self.files.first().map(|file| Source::named(file)).ok_or_else(missing)
+    }
+
+    /// Asks that standard input is named once at most, as a file or by an option that reads one; `wrong` is
+    /// what to say otherwise.
+    pub fn one_standard_input(&self, wrong: &str) -> Result<(), Failure> {
+        let options = ["--image", "--key"].into_iter().flat_map(|name| self.values(name));
+        let named = options.chain(self.files.iter().map(OsString::as_os_str)).filter(|file| *file == "-");
+        match named.count() {
+            0 | 1 => Ok(()),
+            _ => Err(self.usage(wrong)),
+        }
     }
 
     /// An option's value as a number of 32 bits.

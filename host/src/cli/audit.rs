@@ -1,6 +1,6 @@
 //! `audit`: many lists, call after call, and how often each code and target was answered.
 
-use super::args::{Grammar, Options};
+use super::args::{Grammar, Options, ONLY_ONCE};
 use super::complain;
 use super::failure::{shown, Failure, Status};
 use super::files::{Input, Source};
@@ -90,11 +90,7 @@ impl Audit {
     /// What the options say, by this call.
     fn given(options: &Options, call: Call) -> Result<Audit, Failure> {
         options.source()?;
-        let image_is_standard = options.value("--image").is_some_and(|file| file == "-");
-        let standard = options.sources().iter().filter(|source| **source == Source::Standard).count();
-        if standard + usize::from(image_is_standard) > 1 {
-            return Err(options.usage("standard input can be read only once"));
-        }
+        options.one_standard_input(ONLY_ONCE)?;
         Ok(Audit {
             board: options.board()?,
             form: options.form()?,

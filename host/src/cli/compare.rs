@@ -8,7 +8,7 @@
 mod judge;
 mod runs;
 
-use super::args::{Grammar, Options};
+use super::args::{Grammar, Options, ONLY_ONCE};
 use super::explain::{self, Secrets};
 use super::failure::{Failure, Status};
 use super::files::Source;
@@ -61,7 +61,7 @@ fn run_by(words: &[OsString], call: Call) -> Result<Status, Failure> {
     let form = options.form()?;
     let source = options.source()?;
     let secrets = options.secrets();
-    only_one_standard_input(&options, &source)?;
+    options.one_standard_input(ONLY_ONCE)?;
     let keys = Key::both(&options)?;
     let memory = Memory::given(&options)?;
     let list = List::read(&source, form)?;
@@ -72,14 +72,6 @@ fn run_by(words: &[OsString], call: Call) -> Result<Status, Failure> {
     alike_at_lock(&list, &scope, &runs)?;
     let report = Report { list: &list, scope: &scope, runs: &runs, keys: &keys, secrets, style };
     report.tell(&mut io::BufWriter::new(io::stdout().lock()))
-}
-
-fn only_one_standard_input(options: &Options, source: &Source) -> Result<(), Failure> {
-    let named = options.values("--key").chain(options.value("--image")).filter(|file| *file == "-").count();
-    if named + usize::from(*source == Source::Standard) > 1 {
-        return Err(options.usage("standard input can be read only once"));
-    }
-    Ok(())
 }
 
 /// What stands in protected memory in one of the runs.

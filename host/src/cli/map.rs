@@ -1,6 +1,6 @@
 //! `map`: where each address goes, as a table and as a picture.
 
-use super::args::{Grammar, Options};
+use super::args::{Grammar, Options, NOT_BOTH};
 use super::failure::{Failure, Status};
 use super::files::{self, Sink, Source};
 use super::load::{List, Memory};
@@ -47,6 +47,7 @@ pub fn run(words: &[OsString]) -> Result<Status, Failure> {
     if sink.as_ref().is_some_and(|sink| *sink != Sink::Standard && sink.same(&Sink::Standard)) {
         return Err(options.usage("--svg names the file that the map is printed to"));
     }
+    options.one_standard_input(NOT_BOTH)?;
     let memory = Memory::given(&options)?;
     let list = match options.source() {
         Ok(source) => traced(&options, &source)?,
@@ -70,16 +71,7 @@ fn traced(options: &Options, source: &Source) -> Result<List, Failure> {
     if let Some(option) = only_without.iter().find(|option| options.has(option)) {
         return Err(options.usage(format!("{option} and FILE exclude each other: FILE's records decide")));
     }
-    one_input(options, source)?;
     List::read(source, options.form()?)
-}
-
-/// Asks that standard input is not wanted twice.
-pub fn one_input(options: &Options, source: &Source) -> Result<(), Failure> {
-    if *source == Source::Standard && options.value("--image").is_some_and(|file| file == "-") {
-        return Err(options.usage("FILE and --image cannot both be standard input"));
-    }
-    Ok(())
 }
 
 /// The list that sets up what the options describe.

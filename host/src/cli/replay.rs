@@ -1,6 +1,6 @@
 //! `replay`.
 
-use super::args::{Grammar, Options};
+use super::args::{Grammar, Options, NOT_BOTH};
 use super::expect::Expectations;
 use super::explain::{Secrets, Told};
 use super::failure::{Failure, Status};
@@ -52,9 +52,7 @@ fn run_by(words: &[OsString], call: Call) -> Result<Status, Failure> {
     let source = options.source()?;
     let task = Task::given(&options, &source)?;
     let outputs = Outputs::given(&options, !matches!(task, Task::Silent))?;
-    if source == Source::Standard && options.value("--image").is_some_and(|file| file == "-") {
-        return Err(options.usage("FILE and --image cannot both be standard input"));
-    }
+    options.one_standard_input(NOT_BOTH)?;
     let memory = Memory::given(&options)?;
     let bytes = source.read()?;
     let text = matches!(task, Task::Bless { .. }).then(|| bytes.clone());

@@ -8,14 +8,14 @@ mod dump;
 mod registers;
 mod ring;
 
-use super::args::Grammar;
+use super::args::{Grammar, NOT_BOTH};
 use super::explain::Tone;
 use super::failure::{Failure, Status};
 use super::load::{List, Memory};
 use super::pair::{Heard, Pair};
 use super::style::Style;
 use super::survey::{self, Mapping, Reach};
-use super::{map, numbers, words};
+use super::{numbers, words};
 use mitrophel::record::RECORD_BYTES;
 use mitrophel::reference::Gmch;
 use mitrophel::Board;
@@ -42,7 +42,7 @@ pub fn run(words: &[OsString]) -> Result<Status, Failure> {
     let style = Style::new(options.colour()?);
     let form = options.form()?;
     let source = options.source()?;
-    map::one_input(&options, &source)?;
+    options.one_standard_input(NOT_BOTH)?;
     let memory = Memory::given(&options)?;
     let list = List::read(&source, form)?;
     let mut pair = Pair::new(board, [memory.fresh(), memory.fresh()]);
