@@ -243,7 +243,7 @@ impl Guarded {
         for record in record::decode(&list.records).filter(decides) {
             hub.answer(&record);
             for range in hub.protected_ranges() {
-                if !range.is_empty() && !ranges.contains(&range) {
+                if !ranges.contains(&range) {
                     ranges.push(range);
                 }
             }

@@ -108,21 +108,9 @@ fn memory(page: &mut Page, hub: &Hub<'_>) {
     page.heading("Memory");
     page.row(&format!("TOM        {:8X}h", hub.tom()), "memory ends");
     page.row(&format!("U          {:8X}h", hub.usable_top()), "ordinary memory ends");
-    for (first, last) in protected_ranges(hub) {
-        page.row(&format!("protected  {first:8X}h"), &format!("to {last:X}h"));
+    for range in hub.protected_ranges() {
+        page.row(&format!("protected  {:8X}h", range.start), &format!("to {:X}h", range.end - 1));
     }
-}
-
-/// The first and last address of each protected range.
-fn protected_ranges(hub: &Hub<'_>) -> Vec<(u32, u32)> {
-    let mut ranges = Vec::new();
-    for page in (0..hub.tom()).step_by(4096).filter(|&page| hub.protected(page)) {
-        match ranges.last_mut() {
-            Some((_, last)) if *last == page - 1 => *last = page + 4095,
-            _ => ranges.push((page, page + 4095)),
-        }
-    }
-    ranges
 }
 
 /// The valid entries of the translation table.

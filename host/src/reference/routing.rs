@@ -189,11 +189,23 @@ impl<O: Observer, F: Faults> Gmch<'_, O, F> {
         (0xA_0000..=0xB_FFFF).contains(&address) && closed || self.in_tseg(address)
     }
 
-    /// Where [`Gmch::protected`] bytes lie: A0000h-BFFFFh and the TSEG, each empty where it is not protected.
-    pub fn protected_ranges(&self) -> [Range<u32>; 2] {
-        let tseg = self.tom - self.smram().tseg_bytes();
-        let ranges = [0xA_0000..0xC_0000, tseg..self.tom];
-        ranges.map(|range| if self.protected(range.start) { range } else { 0..0 })
+    /// Where [`Gmch::protected`] bytes lie, from the lowest address up: A0000h-BFFFFh and the TSEG, as far as
+    /// they are protected.
+    ///
+    /// ```
+    /// # use mitrophel::reference::{Gmch, TABLE_WORDS};
+    /// # use mitrophel::{Board, Record};
+    /// # let (mut memory, mut table) = (vec![0; 8 << 20], [0; TABLE_WORDS]);
+    /// # let mut gmch = Gmch::new(Board::I82810, &mut memory, &mut table).expect("8 MiB is a memory");
+    /// assert_eq!(gmch.protected_ranges().count(), 0);
+    /// gmch.answer(&Record::io_write(0xCF8, 4, 0x8000_0070));
+    /// gmch.answer(&Record::io_write(0xCFC, 1, 0xBE)); // 512 KiB taken, TSEG of 1 MiB
+    /// assert!(gmch.protected_ranges().eq([0xA_0000..0xC_0000, 0x70_0000..0x80_0000]));
+    /// ```
+    pub fn protected_ranges(&self) -> impl Iterator<Item = Range<u32>> {
+        let tseg = self.tom - self.smram().tseg_bytes()..self.tom;
+        let ranges = [0xA_0000..0xC_0000, tseg].map(|range| self.protected(range.start).then_some(range));
+        ranges.into_iter().flatten()
     }
 
     /// "value read, zero-extended (0 for writes)"; "a write's data past its width is ignored".
@@ -214,5 +226,29 @@ impl<O: Observer, F: Faults> Gmch<'_, O, F> {
             }
         };
         reached(Target::Memory, address, value)
+    }
+}
+
+#[cfg(test)]
+mod tests {
+    use super::super::TABLE_WORDS;
+    use super::*;
+    use crate::{Board, Record};
+
+    /// The ranges are the protected bytes, page by page.
+    #[test]
+    fn the_ranges_hold_what_is_protected() {
+        let (mut memory, mut table) = (vec![0; 16 << 20], Box::new([0; TABLE_WORDS]));
+        let mut hub = Gmch::new(Board::I82810, &mut memory, &mut table).expect("16 MiB is a memory");
+        for smram in 0..=0xFF {
+            hub.answer(&Record::reset());
+            hub.answer(&Record::io_write(0xCF8, 4, 0x8000_0070));
+            hub.answer(&Record::io_write(0xCFC, 1, smram));
+            for page in (0..hub.tom() + 4096).step_by(4096) {
+                let within = hub.protected_ranges().any(|range| range.contains(&page));
+                assert_eq!(within, hub.protected(page), "SMRAM {smram:02X}h, {page:X}h");
+            }
+            assert!(hub.protected_ranges().all(|range| !range.is_empty()), "SMRAM {smram:02X}h");
+        }
     }
 }

@@ -12,9 +12,6 @@ use std::collections::HashSet;
 use std::iter;
 use std::ops::Range;
 
-/// The largest part of memory that is protected or not as a whole.
-const PAGE: usize = 4096;
-
 /// What a trace is replayed on.
 pub struct Machine<'a> {
     pub board: Board,
@@ -34,15 +31,7 @@ pub struct Protected(pub Vec<Range<usize>>);
 
 impl Protected {
     fn of(hub: &Gmch<'_, Heard>) -> Protected {
-        let mut ranges: Vec<Range<usize>> = Vec::new();
-        for page in (0..hub.tom()).step_by(PAGE).filter(|&page| hub.protected(page)) {
-            let page = page as usize;
-            match ranges.last_mut().filter(|range| range.end == page) {
-                Some(range) => range.end += PAGE,
-                None => ranges.push(page..page + PAGE),
-            }
-        }
-        Protected(ranges)
+        Protected(hub.protected_ranges().map(|range| range.start as usize..range.end as usize).collect())
     }
 
     fn has(&self, address: usize) -> bool {
