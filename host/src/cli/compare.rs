@@ -19,7 +19,7 @@ use super::style::Style;
 use super::words::wrapped;
 use judge::{alike_at_lock, forbidden, seen, Difference, Field, Seen, Verdict};
 use mitrophel::call::gmch_replay;
-use mitrophel::record::{self, RECORD_BYTES};
+use mitrophel::record::RECORD_BYTES;
 use mitrophel::trace::REDACTED;
 use runs::{Machine, Run, Scope};
 use std::ffi::{OsStr, OsString};
@@ -221,9 +221,8 @@ impl Report<'_> {
 
     /// The trace's own record, whose data may be the key's.
     fn statement(&self, index: usize) -> String {
-        let record = record::decode(&self.list.records).nth(index).unwrap_or_default();
-        let hidden = self.secrets == Secrets::Hidden && self.scope.carriers.contains(&index);
-        explain::asked(&record, self.scope.bases[index], hidden)
+        let hidden = self.secrets == Secrets::Hidden && self.scope.carriers.binary_search(&index).is_ok();
+        explain::asked(&self.list.record(index), self.scope.bases[index], hidden)
     }
 
     /// What was compared and is equal.
@@ -306,7 +305,7 @@ mod tests {
     use super::*;
     use mitrophel::faults::{Fault, OneFault};
     use mitrophel::reference::{self, Unobserved};
-    use mitrophel::Board;
+    use mitrophel::{record, Board};
 
     const LEAK: &str = "config write dev0.SMRAM 4Ch\nconfig write dev1.GMADR C0000000h\n\
                         config write dev1.MMADR F0000000h\nconfig write dev1.PCICMD 2\nentry 10 A0000h\n\

@@ -4,9 +4,9 @@ use super::args::Options;
 use super::failure::{complain, shown, Failure, Status};
 use super::files::{Input, Source};
 use super::{numbers, pair, trace};
-use mitrophel::is_memory_length;
-use mitrophel::record::{MAX_RECORDS, RECORD_BYTES};
+use mitrophel::record::{self, MAX_RECORDS, RECORD_BYTES};
 use mitrophel::trace::{Assembled, Expectation, Place};
+use mitrophel::{is_memory_length, Record};
 use std::io;
 use std::ops::Range;
 use std::path::Path;
@@ -114,6 +114,11 @@ impl List {
     pub fn binary(name: String, records: Vec<u8>) -> Result<List, Failure> {
         whole_records(&name, records.len() as u64)?;
         Ok(List { files: vec![name], records, places: Vec::new(), expectations: Vec::new() })
+    }
+
+    /// A record, from 0.
+    pub fn record(&self, index: usize) -> Record {
+        record::decode(&self.records[index * RECORD_BYTES..]).next().unwrap_or_default()
     }
 
     /// The place of a record, from 0: `FILE:LINE` or `FILE: record 3`.
@@ -279,7 +284,6 @@ impl Memory {
 #[cfg(test)]
 mod tests {
     use super::*;
-    use mitrophel::{record, Record};
 
     #[test]
     fn a_list_with_a_good_record_is_binary_and_a_trace_is_text() {
