@@ -17,7 +17,7 @@ use super::numbers::{self, counted, grouped};
 use super::pair::Call;
 use super::style::Style;
 use super::words::wrapped;
-use judge::{alike_at_lock, forbidden, seen, Difference, Field, Seen, Verdict};
+use judge::{alike_at_lock, forbidden, seen, Difference, Seen, Verdict};
 use mitrophel::call::gmch_replay;
 use mitrophel::record::RECORD_BYTES;
 use mitrophel::trace::REDACTED;
@@ -27,6 +27,9 @@ use std::fs::File;
 use std::io::{self, Read, Write};
 use std::ops::Range;
 use std::path::Path;
+
+pub use judge::Field;
+pub use runs::Protected;
 
 /// Columns that the report keeps to.
 const WIDTH: usize = 80;

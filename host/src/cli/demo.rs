@@ -6,6 +6,7 @@
 //! the lobby picture from memory.
 
 use super::args::Grammar;
+use super::compare::{Field, Protected};
 use super::explain::{Secrets, Told, Tone};
 use super::failure::{Failure, Status};
 use super::names::Bases;
@@ -136,21 +137,20 @@ struct Run {
     bases: Vec<Bases>,
     /// Whether each record landed in protected memory, as management mode's alone do.
     landed: Vec<bool>,
-    /// Whether each page is protected at the end.
-    protected: Vec<bool>,
+    /// What is protected at the end.
+    protected: Protected,
 }
 
 impl Run {
     fn of(bytes: &[u8], call: Call) -> Result<Run, Failure> {
         let mut pair = board(call);
-        let (mut told, mut bases, mut landed, mut protected) = (Vec::new(), Vec::new(), Vec::new(), Vec::new());
+        let (mut told, mut bases, mut landed) = (Vec::new(), Vec::new(), Vec::new());
+        let mut protected = Protected::default();
         let answers = pair.replay(bytes, |step| {
             told.push(Told::of(step, Secrets::Shown));
             bases.push(step.bases);
             landed.push(step.protected);
-            if (step.index + 1) * record::RECORD_BYTES == bytes.len() {
-                protected = (0..MEMORY / 4096).map(|page| step.hub.protected(4096 * page as u32)).collect();
-            }
+            protected = Protected::of(step.hub);
             Ok(())
         })?;
         let replay = Replay {
@@ -176,6 +176,25 @@ impl Run {
             }
         }
         records
+    }
+
+    /// How many management-mode reads of protected memory differ from another replay's. Nothing else may.
+    fn differing_reads(&self, other: &Replay) -> Result<u64, Failure> {
+        let mut reads = 0;
+        for (number, (one, two)) in self.replay.answers.iter().zip(&other.answers).enumerate() {
+            match Field::differing(one, two) {
+                None => {}
+                Some(Field::Value) if self.landed[number] => reads += 1,
+                Some(_) => {
+                    let asked = &self.told[number].asked;
+                    return Err(Failure::disagreement(format!("'{asked}' is answered otherwise with another key")));
+                }
+            }
+        }
+        if self.protected.difference_outside(&self.replay.memory, &other.memory).is_some() {
+            return Err(Failure::disagreement("memory outside the protected ranges depends on the key"));
+        }
+        Ok(reads)
     }
 
     /// The pixels of the lobby picture, from memory: each where the answer to its write says it went.
@@ -302,29 +321,6 @@ impl<W: Write> Teller<'_, W> {
         );
         self.checked += 1;
         self.tell()
-    }
-}
-
-impl Run {
-    /// How many management-mode reads of protected memory differ from another replay's. Nothing else may.
-    fn differing_reads(&self, other: &Replay) -> Result<u64, Failure> {
-        let mut reads = 0;
-        for (number, (one, two)) in self.replay.answers.iter().zip(&other.answers).enumerate() {
-            if one == two {
-                continue;
-            }
-            let only_value = Answer { value: two.value, ..*one } == *two;
-            if !(self.landed[number] && only_value) {
-                let asked = &self.told[number].asked;
-                return Err(Failure::disagreement(format!("'{asked}' is answered otherwise with another key")));
-            }
-            reads += 1;
-        }
-        let mut pages = self.replay.memory.chunks(4096).zip(other.memory.chunks(4096)).zip(&self.protected);
-        if pages.any(|((one, two), protected)| !protected && one != two) {
-            return Err(Failure::disagreement("memory outside the protected ranges depends on the key"));
-        }
-        Ok(reads)
     }
 }
 

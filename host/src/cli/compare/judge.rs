@@ -31,6 +31,11 @@ impl Field {
     const ALL: [Field; 7] =
         [Field::Code, Field::Target, Field::Line, Field::Reserved, Field::Address, Field::Count, Field::Value];
 
+    /// The first field in which two answers differ: the value only where nothing else does.
+    pub fn differing(one: &Answer, two: &Answer) -> Option<Field> {
+        Field::ALL.into_iter().find(|field| field.of(one) != field.of(two))
+    }
+
     fn of(self, answer: &Answer) -> u32 {
         match self {
             Field::Code => answer.code.into(),
@@ -79,7 +84,7 @@ pub struct Seen {
 pub fn seen(scope: &Scope, runs: &[Run; 2]) -> Vec<Seen> {
     let mut seen = Vec::new();
     for (index, (one, two)) in runs[0].answers.iter().zip(&runs[1].answers).enumerate() {
-        let Some(field) = Field::ALL.into_iter().find(|field| field.of(one) != field.of(two)) else { continue };
+        let Some(field) = Field::differing(one, two) else { continue };
         let record = &runs[0].records[index];
         let read_of_the_key = !is_write(record) && lands(&scope.protected, record, one);
         let verdict = match field {
@@ -122,9 +127,7 @@ pub fn forbidden(scope: &Scope, runs: &[Run; 2]) -> Option<Difference> {
 }
 
 fn unprotected_byte(scope: &Scope, one: &Run, two: &Run) -> Option<Difference> {
-    let others = scope.protected.others(one.memory.len());
-    let range = others.into_iter().find(|range| one.memory[range.clone()] != two.memory[range.clone()])?;
-    let at = range.into_iter().find(|&at| one.memory[at] != two.memory[at])?;
+    let at = scope.protected.difference_outside(&one.memory, &two.memory)?;
     Some(Difference::Byte(at, [one.memory[at].into(), two.memory[at].into()]))
 }
 

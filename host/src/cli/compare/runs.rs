@@ -26,11 +26,11 @@ impl Machine<'_> {
 }
 
 /// The protected bytes: ranges of addresses, in order.
-#[derive(Debug, PartialEq, Eq)]
+#[derive(Debug, Default, PartialEq, Eq)]
 pub struct Protected(pub Vec<Range<usize>>);
 
 impl Protected {
-    fn of(hub: &Gmch<'_, Heard>) -> Protected {
+    pub fn of(hub: &Gmch<'_, Heard>) -> Protected {
         Protected(hub.protected_ranges().map(|range| range.start as usize..range.end as usize).collect())
     }
 
@@ -51,6 +51,13 @@ impl Protected {
         let starts = iter::once(0).chain(self.0.iter().map(|range| range.end));
         let ends = self.0.iter().map(|range| range.start).chain(iter::once(length));
         starts.zip(ends).map(|(start, end)| start..end).collect()
+    }
+
+    /// The first other byte in which two memories of one length differ.
+    pub fn difference_outside(&self, one: &[u8], two: &[u8]) -> Option<usize> {
+        let others = self.others(one.len());
+        let mut range = others.into_iter().find(|range| one[range.clone()] != two[range.clone()])?;
+        range.find(|&at| one[at] != two[at])
     }
 
     pub fn in_words(&self) -> String {
@@ -78,7 +85,7 @@ pub struct Scope {
     /// SMRAM after the lock.
     pub smram: Smram,
     pub protected: Protected,
-    /// The management-mode writes that land in protected memory, before the lock too.
+    /// The management-mode writes that land in protected memory, before the lock too, in order.
     pub carriers: Vec<usize>,
     /// What the names stood for at each record.
     pub bases: Vec<Bases>,
