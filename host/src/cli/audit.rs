@@ -456,9 +456,8 @@ fn painted(style: Style, line: &str, count: u64, denied: bool) -> String {
 
 #[cfg(test)]
 mod tests {
+    use super::super::pair::wrong::leaking;
     use super::*;
-    use mitrophel::faults::{Fault, OneFault};
-    use mitrophel::reference::{self, Unobserved};
 
     /// The example in which an entry is aimed at the key.
     const EXAMPLE: &str = concat!(env!("CARGO_MANIFEST_DIR"), "/../examples/fault-1-entry-aimed-at-the-key.trace");
@@ -468,11 +467,6 @@ mod tests {
         let options = GRAMMAR.parse(&words)?;
         let (_, status) = Audit::given(&options, call)?.files(&options.sources())?;
         Ok(status)
-    }
-
-    fn leaking(board: u32, memory: &mut [u8], records: &[u8], answers: &mut [u8]) -> u32 {
-        let fault = OneFault::new(Fault::ProtectionNotChecked);
-        reference::replay_with(board, memory, records, answers, Unobserved, fault)
     }
 
     /// The reference is asked where `--compare` is given, and only there.

@@ -305,19 +305,13 @@ const ADVICE: &str = "Keep no secret on this model. Please report the trace with
 
 #[cfg(test)]
 mod tests {
+    use super::super::pair::wrong::leaking;
     use super::*;
-    use mitrophel::faults::{Fault, OneFault};
-    use mitrophel::reference::{self, Unobserved};
     use mitrophel::{record, Board};
 
     const LEAK: &str = "config write dev0.SMRAM 4Ch\nconfig write dev1.GMADR C0000000h\n\
                         config write dev1.MMADR F0000000h\nconfig write dev1.PCICMD 2\nentry 10 A0000h\n\
                         write PGTBL_CTL 1\nconfig write dev0.SMRAM 4Eh\nread4 WINDOW+A000h\n";
-
-    fn leaking(board: u32, memory: &mut [u8], records: &[u8], answers: &mut [u8]) -> u32 {
-        let fault = OneFault::new(Fault::ProtectionNotChecked);
-        reference::replay_with(board, memory, records, answers, Unobserved, fault)
-    }
 
     fn machine(memory: &Memory, call: Call) -> Machine<'_> {
         Machine { board: Board::I82810, memory, call }

@@ -227,25 +227,42 @@ pub fn first_call(records: &[u8]) -> Option<usize> {
     resets.filter(|(_, record)| *record == Record::reset()).last().map(|(index, _)| index * RECORD_BYTES)
 }
 
+/// Calls to put in the proved one's place: the reference's, each with a fault.
+#[cfg(test)]
+pub mod wrong {
+    use mitrophel::faults::{Fault, OneFault};
+    use mitrophel::reference::{self, Unobserved};
+
+    macro_rules! calls {
+        ($($(#[doc = $doc:literal])* $name:ident: $fault:ident,)*) => {
+            $($(#[doc = $doc])*
+            pub fn $name(board: u32, memory: &mut [u8], records: &[u8], answers: &mut [u8]) -> u32 {
+                reference::replay_with(board, memory, records, answers, Unobserved, OneFault::new(Fault::$fault))
+            })*
+        };
+    }
+
+    calls! {
+        /// Reaches protected memory through the window.
+        leaking: ProtectionNotChecked,
+        /// Reaches it by an address at which the reference does not.
+        opening: HsegOpensCompatibleRange,
+        unlocking: LockDoesNotHold,
+    }
+}
+
 #[cfg(test)]
 mod tests {
     use super::super::failure::Status;
     use super::*;
-    use mitrophel::faults::{Fault, OneFault};
-    use mitrophel::reference::{self, Unobserved};
 
     fn memory() -> [Vec<u8>; 2] {
         [vec![0; 8 << 20], vec![0; 8 << 20]]
     }
 
-    fn faulty(board: u32, memory: &mut [u8], records: &[u8], answers: &mut [u8]) -> u32 {
-        let fault = OneFault::new(Fault::LockDoesNotHold);
-        reference::replay_with(board, memory, records, answers, Unobserved, fault)
-    }
-
-    /// Answers as the reference does, but leaves a byte of memory other than it should.
+    /// Answers as the proved call does, but leaves a byte of memory other than it should.
     fn scribbling(board: u32, memory: &mut [u8], records: &[u8], answers: &mut [u8]) -> u32 {
-        let result = faulty(board, memory, records, answers);
+        let result = gmch_replay(board, memory, records, answers);
         memory[0x1234] ^= 1;
         result
     }
@@ -269,8 +286,8 @@ mod tests {
             seen += 1;
             Ok(())
         };
-        let failure =
-            Pair::by(Board::I82810, memory(), faulty).replay(&records, &mut count).expect_err("a faulty call");
+        let mut pair = Pair::by(Board::I82810, memory(), wrong::unlocking);
+        let failure = pair.replay(&records, &mut count).expect_err("a faulty call");
         assert_eq!(failure.status, Status::Disagreement);
         assert!(failure.message.contains("DISAGREE at record 5 of the call: in1 CONFIG_DATA"), "{}", failure.message);
         assert_eq!(seen, 4);
@@ -289,12 +306,6 @@ mod tests {
         assert_eq!(failure.status, Status::Disagreement);
     }
 
-    /// Reaches protected memory by an address at which the reference does not.
-    fn leaking(board: u32, memory: &mut [u8], records: &[u8], answers: &mut [u8]) -> u32 {
-        let fault = OneFault::new(Fault::HsegOpensCompatibleRange);
-        reference::replay_with(board, memory, records, answers, Unobserved, fault)
-    }
-
     #[test]
     fn a_key_that_only_the_call_reaches_is_not_shown() {
         let mut records = smram(0x10).to_vec();
@@ -303,7 +314,7 @@ mod tests {
             memory[0xA_0000..0xA_0004].fill(0x5A);
             memory
         });
-        let mut pair = Pair::by(Board::I82810, memory, leaking);
+        let mut pair = Pair::by(Board::I82810, memory, wrong::opening);
         let failure = pair.replay(&record::encode(&records), |_| Ok(())).expect_err("a leaking call");
         assert!(failure.message.contains("DISAGREE at record 3 of the call"), "{}", failure.message);
         assert!(failure.message.contains("shown as 0") && !failure.message.contains("5A"), "{}", failure.message);

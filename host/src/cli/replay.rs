@@ -333,15 +333,9 @@ impl Outputs {
 
 #[cfg(test)]
 mod tests {
+    use super::super::pair::wrong::leaking;
     use super::*;
-    use mitrophel::faults::{Fault, OneFault};
-    use mitrophel::reference::{self, Unobserved};
     use std::{env, fs, process};
-
-    fn leaking(board: u32, memory: &mut [u8], records: &[u8], answers: &mut [u8]) -> u32 {
-        let fault = OneFault::new(Fault::ProtectionNotChecked);
-        reference::replay_with(board, memory, records, answers, Unobserved, fault)
-    }
 
     /// A call that lets an entry reach the key: exit status 5, a loud message, and no file.
     #[test]
