@@ -38,6 +38,8 @@ pub struct Told {
     pub reason: String,
     /// The interrupt line is up.
     pub line: bool,
+    /// Its values are those of protected memory, and left out.
+    pub hidden: bool,
 }
 
 impl Told {
@@ -45,7 +47,7 @@ impl Told {
         let hidden = step.secret && secrets == Secrets::Hidden;
         let (tone, outcome) = outcome(step, hidden);
         let asked = asked(&step.record, step.bases, hidden);
-        Told { tone, asked, outcome, reason: reason(step), line: step.answer.line != 0 }
+        Told { tone, asked, outcome, reason: reason(step), line: step.answer.line != 0, hidden }
     }
 
     /// What an expectation of a trace says of it, with or without the reason.

@@ -219,9 +219,8 @@ impl Printer {
             return Ok(());
         }
         let told = &Told::of(step, self.secrets);
-        let hidden = step.secret && self.secrets == Secrets::Hidden;
         let line = self.lines.then(|| list.short_line(index));
-        self.report.record(out, &Entry { number: index + 1, place: list.line(index), line, step, told, hidden })
+        self.report.record(out, &Entry { number: index + 1, place: list.line(index), line, step, told })
     }
 }
 

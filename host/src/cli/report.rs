@@ -27,8 +27,6 @@ pub struct Entry<'a, 's, 'm> {
     pub line: Option<String>,
     pub step: &'a Step<'s, 'm>,
     pub told: &'a Told,
-    /// Its values are not shown.
-    pub hidden: bool,
 }
 
 /// Prints records.
@@ -144,7 +142,7 @@ enum Value {
 }
 
 /// The fields' names, which programs rely on: they stay, and new ones come after them.
-pub const FIELDS: [&str; 19] = [
+const FIELDS: [&str; 19] = [
     "record",
     "file",
     "line",
@@ -167,10 +165,10 @@ pub const FIELDS: [&str; 19] = [
 ];
 
 fn fields(entry: &Entry<'_, '_, '_>) -> [Value; FIELDS.len()] {
-    let Entry { number, place, step, told, hidden, .. } = entry;
+    let Entry { number, place, step, told, .. } = entry;
     let (record, answer) = (&step.record, &step.answer);
     let text = |text: &str| Value::Text(text.to_string());
-    let unless_hidden = |value| if *hidden { Value::None } else { Value::Number(value) };
+    let unless_hidden = |value| if told.hidden { Value::None } else { Value::Number(value) };
     [
         Value::Number(*number as u32),
         place.map_or(Value::None, |(file, _)| text(file)),
@@ -190,7 +188,7 @@ fn fields(entry: &Entry<'_, '_, '_>) -> [Value; FIELDS.len()] {
         Value::Number(answer.count),
         text(&told.outcome),
         text(&told.reason),
-        Value::Flag(*hidden),
+        Value::Flag(told.hidden),
     ]
 }
 
