@@ -89,9 +89,7 @@ impl Input {
         }
         Ok(())
     }
-}
 
-impl Input {
     /// Reads to the end. What is no plain file, and may have none, is read to a bound.
     pub fn fill_whole(&mut self) -> Result<(), Failure> {
         if self.source.length().is_some() {
@@ -109,7 +107,7 @@ impl Input {
 }
 
 /// As much as is taken of a pipe or a device, so that one without an end does not take all memory.
-pub const MOST_BYTES: usize = 1 << 30;
+const MOST_BYTES: usize = 1 << 30;
 
 /// Where output goes.
 #[derive(Clone, Debug, PartialEq, Eq)]
@@ -219,7 +217,7 @@ impl Secrecy {
 const PRIVATE: u32 = 0o600;
 
 /// A file that is removed unless it is renamed, by a signal too.
-struct Temporary {
+pub struct Temporary {
     path: PathBuf,
     renamed: bool,
     _doomed: Doomed,
@@ -263,11 +261,9 @@ pub enum Pending<'a> {
     Standard(&'a [u8]),
     /// A device, a pipe, an open descriptor: something that no file may take the place of.
     Direct(PathBuf, &'a [u8]),
-    Written(PathBuf, Written),
+    /// The whole output under another name.
+    Written(PathBuf, Temporary),
 }
-
-/// The whole output under another name.
-pub struct Written(Temporary);
 
 impl<'a> Pending<'a> {
     /// Writes the bytes of a file under another name. A file that is there already keeps its permissions.
@@ -281,17 +277,15 @@ impl<'a> Pending<'a> {
             Ok(data) if !data.is_file() || target.parent().is_some_and(has_descriptors) => {
                 Ok(Pending::Direct(path.clone(), bytes))
             }
-            Ok(data) => {
+            old => {
                 let (file, temporary) = write_beside(&target, bytes).map_err(failure)?;
-                file.set_permissions(data.permissions()).and_then(|()| file.sync_all()).map_err(failure)?;
-                Ok(Pending::Written(target, Written(temporary)))
-            }
-            Err(_) => {
-                let (file, temporary) = write_beside(&target, bytes).map_err(failure)?;
-                // Some file systems have no permissions to set.
-                let _ = file.set_permissions(secrecy.permissions());
+                match old {
+                    Ok(data) => file.set_permissions(data.permissions()).map_err(failure)?,
+                    // Some file systems have no permissions to set.
+                    Err(_) => drop(file.set_permissions(secrecy.permissions())),
+                }
                 file.sync_all().map_err(failure)?;
-                Ok(Pending::Written(target, Written(temporary)))
+                Ok(Pending::Written(target, temporary))
             }
         }
     }
@@ -299,20 +293,21 @@ impl<'a> Pending<'a> {
     /// Puts the output in its place.
     pub fn commit(self) -> Result<(), Failure> {
         match self {
-            Pending::Standard(bytes) => {
-                let mut out = io::stdout().lock();
-                out.write_all(bytes).and_then(|()| out.flush())?;
-                Ok(())
-            }
+            Pending::Standard(bytes) => print(bytes),
             Pending::Direct(path, bytes) => {
                 let written = File::options().append(true).open(&path).and_then(|mut file| file.write_all(bytes));
                 written.map_err(|error| Failure::file(&path, &error))
             }
-            Pending::Written(path, Written(temporary)) => {
-                temporary.rename(&path).map_err(|error| Failure::file(&path, &error))
-            }
+            Pending::Written(path, temporary) => temporary.rename(&path).map_err(|error| Failure::file(&path, &error)),
         }
     }
+}
+
+/// Writes to standard output.
+pub fn print(bytes: &[u8]) -> Result<(), Failure> {
+    let mut out = io::stdout().lock();
+    out.write_all(bytes).and_then(|()| out.flush())?;
+    Ok(())
 }
 
 /// Writes a new file in the folder of a file.

@@ -19,7 +19,7 @@ pub enum Form {
 }
 
 /// As much of a list as its form is told by.
-pub const FORM_BYTES: usize = 64 << 10;
+const FORM_BYTES: usize = 64 << 10;
 
 impl Form {
     /// Told by the first 64 KiB: a text trace has no control characters but tabs and line ends. A good

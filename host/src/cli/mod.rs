@@ -33,7 +33,6 @@ use failure::{complain, shown, Failure, Status};
 use mitrophel::trace::{self, follow, listing, numbers};
 use std::env;
 use std::ffi::OsString;
-use std::io::{self, Write};
 use std::process::ExitCode;
 
 type Run = fn(&[OsString]) -> Result<Status, Failure>;
@@ -107,8 +106,7 @@ fn help_of(words: &[OsString]) -> Result<Status, Failure> {
 }
 
 fn say(text: &str) -> Result<Status, Failure> {
-    let mut out = io::stdout().lock();
-    out.write_all(text.as_bytes()).and_then(|()| out.flush())?;
+    files::print(text.as_bytes())?;
     Ok(Status::Done)
 }
 

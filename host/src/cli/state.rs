@@ -15,12 +15,11 @@ use super::load::{List, Memory};
 use super::pair::{Heard, Pair};
 use super::style::Style;
 use super::survey::{self, Mapping, Reach};
-use super::{numbers, words};
+use super::{numbers, say, words};
 use mitrophel::record::RECORD_BYTES;
 use mitrophel::reference::Gmch;
 use mitrophel::Board;
 use std::ffi::OsString;
-use std::io::{self, Write};
 
 /// The hub as a pair's reference has it.
 type Hub<'m> = Gmch<'m, Heard>;
@@ -51,9 +50,7 @@ pub fn run(words: &[OsString]) -> Result<Status, Failure> {
         true => dump::devices(hub, board),
         false => whole(hub, board, list.records.len() / RECORD_BYTES, style),
     })?;
-    let mut out = io::stdout().lock();
-    out.write_all(text.as_bytes()).and_then(|()| out.flush())?;
-    Ok(Status::Done)
+    say(&text)
 }
 
 /// All sections.
