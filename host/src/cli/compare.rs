@@ -16,7 +16,7 @@ use super::load::{List, Memory};
 use super::numbers::{self, counted, grouped};
 use super::pair::Call;
 use super::style::Style;
-use super::words::wrapped;
+use super::words::{beside, wrapped, WIDTH};
 use judge::{alike_at_lock, forbidden, seen, Difference, Seen, Verdict};
 use mitrophel::call::gmch_replay;
 use mitrophel::record::RECORD_BYTES;
@@ -30,9 +30,6 @@ use std::path::Path;
 
 pub use judge::Field;
 pub use runs::Protected;
-
-/// Columns that the report keeps to.
-const WIDTH: usize = 80;
 
 /// Bytes of a key at most. Two of them fit into the least memory that can be protected, 128 KiB, so keys
 /// that differ make memories that differ.
@@ -180,11 +177,8 @@ impl Report<'_> {
     /// A label and text beside it.
     fn lines(&self, out: &mut impl Write, label: &str, text: &str) -> io::Result<()> {
         const COLUMN: usize = 14;
-        for (number, line) in wrapped(text, WIDTH - COLUMN).iter().enumerate() {
-            let label = if number == 0 { label } else { "" };
-            writeln!(out, "  {label:<width$}{line}", width = COLUMN - 2)?;
-        }
-        Ok(())
+        let lines = beside(label, COLUMN, &wrapped(text, WIDTH - COLUMN));
+        lines.iter().try_for_each(|line| writeln!(out, "{line}"))
     }
 
     /// Records that differ for one reason, at most so many.

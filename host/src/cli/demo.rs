@@ -13,7 +13,7 @@ use super::names::Bases;
 use super::pair::{Call, Pair};
 use super::picture::{self, Glyphs};
 use super::style::Style;
-use super::words::wrapped;
+use super::words::{self, wrapped, WIDTH};
 use super::{numbers, trace};
 use mitrophel::call::gmch_replay;
 use mitrophel::record;
@@ -26,9 +26,6 @@ const SAMPLE: &str = include_str!("../../../examples/desk.trace");
 
 const BOARD: Board = Board::I82810;
 const MEMORY: usize = 8 << 20;
-
-/// Columns that the tale keeps to.
-const WIDTH: usize = 80;
 
 /// Where the sample draws: rows of the window, and the pixels of each.
 const ROWS: u32 = 36;
@@ -289,9 +286,8 @@ impl<W: Write> Teller<'_, W> {
 
     /// A statement, and lines in the column of outcomes.
     fn beside(&mut self, statement: &str, lines: &[String]) -> Result<(), Failure> {
-        for (number, line) in lines.iter().enumerate() {
-            let left = if number == 0 { statement } else { "" };
-            writeln!(self.out, "  {left:<width$}{line}", width = self.column.saturating_sub(2))?;
+        for line in words::beside(statement, self.column, lines) {
+            writeln!(self.out, "{line}")?;
         }
         Ok(())
     }

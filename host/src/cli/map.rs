@@ -118,7 +118,7 @@ fn aligned(options: &Options, name: &str, size: u32) -> Result<Option<u32>, Fail
 impl Map {
     fn print(&self, out: &mut impl Write, style: Style) -> io::Result<()> {
         writeln!(out, "{}", style.bold(&self.title))?;
-        for line in self.lines.iter().flat_map(|line| words::wrapped(line, 80)) {
+        for line in self.lines.iter().flat_map(|line| words::wrapped(line, words::WIDTH)) {
             writeln!(out, "{line}")?;
         }
         let headings: Vec<String> = COLUMNS.iter().zip(WIDTHS).map(|(name, width)| format!("{name:<width$}")).collect();

@@ -24,9 +24,6 @@ use std::ffi::OsString;
 /// The hub as a pair's reference has it.
 type Hub<'m> = Gmch<'m, Heard>;
 
-/// Columns that the output keeps to.
-const WIDTH: usize = 80;
-
 pub const GRAMMAR: Grammar = Grammar {
     command: "state",
     values: &["--board", "--memory", "--image", "--color"],
@@ -87,15 +84,14 @@ impl Page {
     }
 
     fn toned(&mut self, left: &str, words: &str, tone: Tone) {
-        let indent = left.chars().count() + 4;
-        let lines = words::wrapped(words, WIDTH - indent);
+        let column = left.chars().count() + 4;
+        let lines = words::wrapped(words, words::WIDTH - column);
         if lines.is_empty() {
             self.text.push_str(&format!("  {}\n", left.trim_end()));
         }
-        for (number, line) in lines.iter().enumerate() {
-            let left = if number == 0 { left } else { "" };
-            let line = self.style.tone(tone, line);
-            self.text.push_str(&format!("  {left:<width$}{line}\n", width = indent - 2));
+        let lines: Vec<String> = lines.iter().map(|line| self.style.tone(tone, line)).collect();
+        for line in words::beside(left, column, &lines) {
+            self.text.push_str(&format!("{line}\n"));
         }
     }
 }
