@@ -38,6 +38,9 @@ impl Observer for Heard {
     }
 }
 
+/// The reference that stands beside the proved call.
+pub type Hub<'m> = Gmch<'m, Heard>;
+
 /// One record with its answer, and what there is to say about it.
 pub struct Step<'a, 'm> {
     /// From 0, in this call.
@@ -56,7 +59,7 @@ pub struct Step<'a, 'm> {
     /// What the register holds that the record wrote.
     pub now: Option<u32>,
     /// The reference after the record.
-    pub hub: &'a Gmch<'m, Heard>,
+    pub hub: &'a Hub<'m>,
 }
 
 /// A board under the proved call and under the reference.
@@ -112,7 +115,7 @@ impl Pair {
     }
 
     /// Makes one call and gives what `look` sees in the reference after it.
-    pub fn look<T>(&mut self, records: &[u8], look: impl FnOnce(&Gmch<'_, Heard>) -> T) -> Result<T, Failure> {
+    pub fn look<T>(&mut self, records: &[u8], look: impl FnOnce(&Hub<'_>) -> T) -> Result<T, Failure> {
         self.both(records, |_| Ok(()), look).map(|(_, seen)| seen)
     }
 
@@ -120,7 +123,7 @@ impl Pair {
         &mut self,
         records: &[u8],
         mut each: E,
-        look: impl FnOnce(&Gmch<'_, Heard>) -> T,
+        look: impl FnOnce(&Hub<'_>) -> T,
     ) -> Result<(Vec<u8>, T), Failure>
     where
         E: FnMut(&Step<'_, '_>) -> Result<(), Failure>,
@@ -165,7 +168,7 @@ impl Pair {
 
 /// Whether a record's value is of protected or guarded memory. A write that is refused has a value too, and so
 /// has the word that the parser does not know.
-fn is_secret(hub: &Gmch<'_, Heard>, guarded: &[Range<u32>], record: &Record, answer: &Answer, heard: &Heard) -> bool {
+fn is_secret(hub: &Hub<'_>, guarded: &[Range<u32>], record: &Record, answer: &Answer, heard: &Heard) -> bool {
     let guards = |address| hub.protected(address) || guarded.iter().any(|range| range.contains(&address));
     match record.kind() {
         Some(Kind::Run) if answer.refusal() != Some(Refusal::UnknownInstruction) => heard.protected,
@@ -200,7 +203,7 @@ fn different_answers(index: usize, record: &Record, bases: Bases, both: [&Answer
 }
 
 /// What the register holds that a record just wrote. Reading a register changes nothing.
-fn register_now(hub: &mut Gmch<'_, Heard>, record: &Record, answer: &Answer) -> Option<u32> {
+fn register_now(hub: &mut Hub<'_>, record: &Record, answer: &Answer) -> Option<u32> {
     if answer.code != 0 || !matches!(answer.target(), Some(Target::Register | Target::MemoryMapped)) {
         return None;
     }

@@ -12,17 +12,13 @@ use super::args::{Grammar, NOT_BOTH};
 use super::explain::Tone;
 use super::failure::{Failure, Status};
 use super::load::{List, Memory};
-use super::pair::{Heard, Pair};
+use super::pair::{Hub, Pair};
 use super::style::Style;
 use super::survey::{self, Mapping, Reach};
 use super::{numbers, say, words};
 use mitrophel::record::RECORD_BYTES;
-use mitrophel::reference::Gmch;
 use mitrophel::Board;
 use std::ffi::OsString;
-
-/// The hub as a pair's reference has it.
-type Hub<'m> = Gmch<'m, Heard>;
 
 pub const GRAMMAR: Grammar = Grammar {
     command: "state",
@@ -108,7 +104,7 @@ fn memory(page: &mut Page, hub: &Hub<'_>) {
 
 /// The valid entries of the translation table.
 fn table(page: &mut Page, hub: &Hub<'_>) {
-    page.heading(match registers::translation_on(hub) {
+    page.heading(match survey::translation_on(hub) {
         true => "Translation table",
         false => "Translation table (off: every access through it is refused 3)",
     });

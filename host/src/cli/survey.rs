@@ -239,7 +239,7 @@ impl Asked {
         } else {
             self.lines.push("Window and registers are off.".to_string());
         }
-        self.translation = step.hub.register(0x2020).is_some_and(|control| control & 1 != 0);
+        self.translation = translation_on(hub);
         self.table = mappings(hub);
     }
 
@@ -323,6 +323,11 @@ fn management(data: Rule, code: Rule) -> Cell {
     }
     // Rule 2 with LSMM 10: code reads reach memory, all else goes where the processor's goes.
     Cell { class: code.class, text: "code memory (2)".to_string() }
+}
+
+/// PGTBL_CTL bit 0.
+pub fn translation_on<O: Observer>(hub: &Gmch<'_, O>) -> bool {
+    hub.register(0x2020).is_some_and(|control| control & 1 != 0)
 }
 
 /// The valid entries, in runs.

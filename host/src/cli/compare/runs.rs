@@ -4,9 +4,9 @@ use super::Key;
 use crate::cli::failure::Failure;
 use crate::cli::load::{List, Memory};
 use crate::cli::names::{self, Bases};
-use crate::cli::pair::{Call, Heard, Pair};
+use crate::cli::pair::{Call, Hub, Pair};
 use mitrophel::record;
-use mitrophel::reference::{Gmch, Smram};
+use mitrophel::reference::Smram;
 use mitrophel::{Answer, Board, Kind, Record, Target};
 use std::collections::HashSet;
 use std::iter;
@@ -30,7 +30,7 @@ impl Machine<'_> {
 pub struct Protected(pub Vec<Range<usize>>);
 
 impl Protected {
-    pub fn of(hub: &Gmch<'_, Heard>) -> Protected {
+    pub fn of(hub: &Hub<'_>) -> Protected {
         Protected(hub.protected_ranges().map(|range| range.start as usize..range.end as usize).collect())
     }
 
@@ -150,7 +150,7 @@ pub struct State {
 }
 
 impl State {
-    fn of(hub: &Gmch<'_, Heard>) -> State {
+    fn of(hub: &Hub<'_>) -> State {
         let mut registers = vec![("CF8h".to_string(), hub.config_address())];
         for (device, at) in (0..2).flat_map(|device| (0..256).map(move |at| (device, at))) {
             let byte = hub.config_byte(device, at).map(u32::from);
@@ -214,7 +214,7 @@ impl Run {
     }
 
     /// Takes note of the hub after a record.
-    fn note(&mut self, scope: &Scope, index: usize, hub: &Gmch<'_, Heard>) {
+    fn note(&mut self, scope: &Scope, index: usize, hub: &Hub<'_>) {
         if index == scope.lock {
             self.at_lock = State::of(hub);
             self.kept = scope.protected.addresses().map(|address| hub.memory()[address]).collect();

@@ -1,7 +1,7 @@
 //! Configuration space in the form that `lspci -x` writes and `lspci -F` reads.
 
 use super::registers::chip;
-use super::Hub;
+use crate::cli::pair::Hub;
 use mitrophel::Board;
 
 /// The devices that a guest sees, with a blank line after each.

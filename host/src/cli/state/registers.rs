@@ -1,8 +1,10 @@
 //! The registers by name, with their fields in words where document 01 gives them a meaning.
 
-use super::{Hub, Page};
+use super::Page;
 use crate::cli::explain::Tone;
 use crate::cli::names::{self, Register};
+use crate::cli::pair::Hub;
+use crate::cli::survey::translation_on;
 use crate::cli::{numbers, words};
 use mitrophel::{Board, Refusal};
 
@@ -117,11 +119,6 @@ fn fence_words(hub: &Hub<'_>, number: &str) -> Option<String> {
         (_, true) => format!("valid, {words}: refused {}", Refusal::FenceIllFormed.code()),
         (_, false) => format!("valid, {words}, tiled"),
     })
-}
-
-/// PGTBL_CTL bit 0.
-pub fn translation_on(hub: &Hub<'_>) -> bool {
-    register(hub, 0x2020) & 1 != 0
 }
 
 fn register(hub: &Hub<'_>, at: u32) -> u32 {

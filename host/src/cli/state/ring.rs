@@ -1,8 +1,9 @@
 //! The ring's words from head to tail, each where the parser would fetch it.
 
-use super::{Hub, Page};
+use super::Page;
 use crate::cli::explain::{self, Tone};
 use crate::cli::numbers;
+use crate::cli::pair::Hub;
 use mitrophel::Refusal;
 
 /// Lines at most; what is left is counted.
