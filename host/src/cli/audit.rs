@@ -16,6 +16,7 @@ use mitrophel::{Answer, Board, Refusal, Target};
 use std::collections::BTreeMap;
 use std::ffi::OsString;
 use std::io::{self, Write};
+use std::mem;
 use std::num::NonZero;
 use std::sync::atomic::{AtomicUsize, Ordering};
 use std::sync::mpsc::{self, Receiver, Sender};
@@ -265,27 +266,25 @@ impl Engine {
 
 /// The calls of one file, read as they are needed.
 struct Calls {
-    /// The records that are not yet given out; those of a text trace, once it is read, too.
+    /// The records of a binary list that are not yet given out.
     input: Input,
+    /// A text trace, which is read whole.
+    list: Option<List>,
+    /// The bytes of a text trace.
+    text: u64,
     /// There is nothing more to give out.
     finished: bool,
     /// Records given out in the calls before the last one, and in all.
     before: u64,
     given: u64,
-    /// A text trace, which is read whole.
-    list: Option<List>,
-    /// The bytes of a text trace.
-    text: u64,
 }
 
 impl Calls {
     fn open(source: &Source, form: Option<Form>) -> Result<Calls, Failure> {
-        let mut calls = Calls { input: source.open()?, finished: false, before: 0, given: 0, list: None, text: 0 };
+        let mut calls = Calls { input: source.open()?, list: None, text: 0, finished: false, before: 0, given: 0 };
         if calls.input.form(form)? == Form::Text {
-            let list = List::of_text(&mut calls.input)?;
-            calls.text = calls.input.bytes.len() as u64;
-            calls.input.bytes.clone_from(&list.records);
-            calls.list = Some(list);
+            calls.list = Some(List::of_text(&mut calls.input)?);
+            calls.text = mem::take(&mut calls.input.bytes).len() as u64;
         }
         Ok(calls)
     }
@@ -295,18 +294,36 @@ impl Calls {
         if self.finished {
             return Ok(None);
         }
+        self.before = self.given;
+        let records = match &self.list {
+            Some(list) => {
+                let left = &list.records[self.given as usize * RECORD_BYTES..];
+                let (call, rest) = left.split_at(self.length(left)?);
+                self.finished = rest.is_empty();
+                call.to_vec()
+            }
+            None => self.read()?,
+        };
+        self.given += (records.len() / RECORD_BYTES) as u64;
+        Ok(Some(records))
+    }
+
+    /// The next call of a binary list.
+    fn read(&mut self) -> Result<Vec<u8>, Failure> {
         self.input.fill((MAX_RECORDS + 1) * RECORD_BYTES)?;
         if self.input.ended {
             let length = self.given * RECORD_BYTES as u64 + self.input.bytes.len() as u64;
             load::whole_records(&self.input.source.name(), length)?;
         }
-        self.before = self.given;
-        let length = pair::first_call(&self.input.bytes).ok_or_else(|| load::uncut(&self.place(0)))?;
-        let rest = self.input.bytes.split_off(length);
-        let records = std::mem::replace(&mut self.input.bytes, rest);
-        self.given += (length / RECORD_BYTES) as u64;
+        let rest = self.input.bytes.split_off(self.length(&self.input.bytes)?);
+        let records = mem::replace(&mut self.input.bytes, rest);
         self.finished = self.input.ended && self.input.bytes.is_empty();
-        Ok(Some(records))
+        Ok(records)
+    }
+
+    /// The length of the call that the records left start with.
+    fn length(&self, left: &[u8]) -> Result<usize, Failure> {
+        pair::first_call(left).ok_or_else(|| load::uncut(&self.place(0)))
     }
 
     /// The place of a record of the last call.
