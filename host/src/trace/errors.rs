@@ -38,7 +38,7 @@ impl fmt::Display for TraceError {
         write!(f, "{file}:{line}:{column}: {message}")?;
         if source.chars().count() <= 200 {
             let shown: String = source.chars().map(visible).collect();
-            let before = source.chars().take(*column as usize - 1);
+            let before = source.chars().take((*column as usize).saturating_sub(1));
             let below: String = before.map(|c| if c == '\t' { '\t' } else { ' ' }).collect();
             write!(f, "\n    {shown}\n    {below}^")?;
         }
