@@ -2,7 +2,7 @@
 
 mod cli;
 
-use cli::{examples, folder, run, run_with, word, Run, DONE, FILE, INPUT, UNMET, USAGE};
+use cli::{example, folder, run, run_with, word, Run, DONE, FILE, INPUT, UNMET, USAGE};
 use mitrophel::{record, Record};
 use std::fs;
 use std::path::Path;
@@ -87,7 +87,7 @@ fn the_calls_of_a_long_list_share_its_memory() {
 #[test]
 fn jobs_change_nothing_of_what_is_told() {
     let folder = folder("audit-jobs");
-    let fault = word(&examples().join("fault-1-entry-aimed-at-the-key.trace"));
+    let fault = example("fault-1-entry-aimed-at-the-key.trace");
     let mut words = Vec::new();
     for number in 0..24 {
         let path = folder.join(format!("{number:02}.rec"));

@@ -2,11 +2,11 @@
 
 mod cli;
 
-use cli::{examples, folder, names, run, run_with, word, CLOSED_PIPE, DONE, FILE, INPUT, UNMET, USAGE};
+use cli::{example, folder, names, run, run_with, word, CLOSED_PIPE, DONE, FILE, INPUT, UNMET, USAGE};
 use mitrophel::reference::{Gmch, TABLE_WORDS};
 use mitrophel::{record, Board, Record};
 use std::fs;
-use std::io::{Read, Write};
+use std::io::Write;
 use std::process::Stdio;
 
 /// "Whole case, board 0, two records", as a trace and as answers.
@@ -149,14 +149,7 @@ fn a_closed_pipe_ends_quietly() {
     let reads = vec![Record::read(0x1000, 4, false); 60_000];
     fs::write(&list, record::encode(&reads)).expect("a list");
     for words in [vec!["replay"], vec!["disasm", "--no-macros"], vec!["replay", "--answers", "-"]] {
-        let mut command = cli::program();
-        command.args(&words).arg(&list).stdout(Stdio::piped()).stderr(Stdio::piped());
-        let mut child = command.spawn().expect("the program starts");
-        let mut start = [0; 16];
-        let mut stdout = child.stdout.take().expect("a pipe");
-        stdout.read_exact(&mut start).expect("the output's start");
-        drop(stdout);
-        let run = cli::finished(child.wait_with_output().expect("the program ends"));
+        let run = cli::left_early(cli::program().args(&words).arg(&list));
         assert_eq!((run.status, run.errors.as_str()), (CLOSED_PIPE, ""), "{words:?}");
     }
 }
@@ -238,8 +231,8 @@ fn the_largest_call_needs_no_reset() {
 
 #[test]
 fn an_audit_counts_codes_and_targets_over_files_and_standard_input() {
-    let codes = word(&examples().join("03-codes.trace"));
-    let fault = word(&examples().join("fault-1-entry-aimed-at-the-key.trace"));
+    let codes = example("03-codes.trace");
+    let fault = example("fault-1-entry-aimed-at-the-key.trace");
     let run = run_with(&["audit", &codes, &fault, "-"], WHOLE_CASE);
     assert_eq!((run.status, run.errors.as_str()), (DONE, ""));
     assert!(run.text.starts_with("3 files, 107 records in 3 calls, 0 parser steps\n"), "{}", run.text);
@@ -259,7 +252,7 @@ fn an_audit_counts_codes_and_targets_over_files_and_standard_input() {
 
 #[test]
 fn an_audit_ends_with_status_1_if_a_denied_refusal_was_seen() {
-    let fault = word(&examples().join("fault-1-entry-aimed-at-the-key.trace"));
+    let fault = example("fault-1-entry-aimed-at-the-key.trace");
     for deny in
         [&["--deny", "protected"][..], &["--deny=6"], &["--deny", "3,PROTECTED"], &["--deny", "2", "--deny=all"]]
     {
@@ -281,7 +274,7 @@ fn an_audit_goes_on_after_a_bad_file() {
     fs::write(&short, [2; 37]).expect("a file");
     fs::write(&wrong, "reset\nread4\n").expect("a file");
     let missing = word(&folder.join("missing.rec"));
-    let good = word(&examples().join("fault-1-entry-aimed-at-the-key.trace"));
+    let good = example("fault-1-entry-aimed-at-the-key.trace");
     let words = ["audit", &word(&short), &missing, &good, &word(&wrong)];
     let run = cli::run(&words);
     assert_eq!(run.status, INPUT);
@@ -363,7 +356,7 @@ fn the_demo_can_be_drawn_in_ascii() {
 /// Colour only where it is asked for or there is a terminal.
 #[test]
 fn a_pipe_has_no_colour_unless_it_is_asked_for() {
-    let fault = word(&examples().join("fault-1-entry-aimed-at-the-key.trace"));
+    let fault = example("fault-1-entry-aimed-at-the-key.trace");
     assert!(!run(&["replay", &fault]).text.contains('\u{1b}'));
     assert!(!run(&["replay", "--color=never", &fault]).text.contains('\u{1b}'));
     let colour = run(&["replay", "--color=always", &fault]).text;

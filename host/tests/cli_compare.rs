@@ -5,14 +5,11 @@ mod cli;
 use cli::*;
 use mitrophel::{record, Record};
 use std::fs;
+use std::path::Path;
 
-fn example(name: &str) -> String {
-    word(&examples().join(name))
-}
-
-/// A file of this test's folder.
-fn file(folder: &str, name: &str, bytes: &[u8]) -> String {
-    let path = std::path::Path::new(env!("CARGO_TARGET_TMPDIR")).join(format!("cli-{folder}")).join(name);
+/// A file of this folder.
+fn file(folder: &Path, name: &str, bytes: &[u8]) -> String {
+    let path = folder.join(name);
     fs::write(&path, bytes).expect("a file");
     word(&path)
 }
@@ -42,7 +39,7 @@ fn the_examples_differ_in_reads_of_the_key_alone() {
 #[test]
 fn the_key_is_shown_only_when_asked_for() {
     let folder = folder("compare-keys");
-    let (one, two) = (file("compare-keys", "one", b"ABCDEFG"), file("compare-keys", "two", b"abcdefgh"));
+    let (one, two) = (file(&folder, "one", b"ABCDEFG"), file(&folder, "two", b"abcdefgh"));
     let trace = fs::canonicalize(example("07-two-runs-first.trace")).expect("the example");
     let words = ["compare", "--key", &one, &word(&trace), "--key", &two];
     let hidden = run(&words);
@@ -78,9 +75,8 @@ fn random_keys_are_new_each_time() {
 fn writes_before_the_lock_carry_the_key() {
     let trace = b"config write dev0.SMRAM 4Ch\nsmm write2 A0010h 4B45h\nsmm read4 A0010h\n\
                   config write dev0.SMRAM 4Eh\nsmm read4 A0010h\nread4 A0010h\n";
-    let folder = "compare-before";
-    cli::folder(folder);
-    let (one, two) = (file(folder, "one", b"ABCDEFGHI"), file(folder, "two", b"abcdefghi"));
+    let folder = folder("compare-before");
+    let (one, two) = (file(&folder, "one", b"ABCDEFGHI"), file(&folder, "two", b"abcdefghi"));
     let run = run_with(&["compare", "--key", &one, "--key", &two, "--show-protected", "-"], trace);
     assert_eq!(run.status, DONE, "{}", run.errors);
     let at = run.text.find("Before the lock, of which demand 3 does not speak:").expect("a read before the lock");
@@ -99,9 +95,8 @@ fn runs_that_differ_at_the_lock_are_refused() {
     let trace = "config write dev0.SMRAM 44h\nconfig write dev1.GMADR C0000000h\nconfig write dev1.MMADR F0000000h\n\
                  config write dev1.PCICMD 2\nentry 0 A0000h\nwrite PGTBL_CTL 1\nwrite LP_RING_START 0\n\
                  write LP_RING_LENGTH 1\nwrite LP_RING_TAIL 8\nrun 9\nconfig write dev0.SMRAM 4Eh\nrun 1\n";
-    let folder = "compare-parser";
-    cli::folder(folder);
-    let (one, two) = (file(folder, "one", &[0]), file(folder, "two", &[0xFF]));
+    let folder = folder("compare-parser");
+    let (one, two) = (file(&folder, "one", &[0]), file(&folder, "two", &[0xFF]));
     let words = ["compare", "--key", &one, "--key", &two, "-"];
     let run = run_with(&words, trace.as_bytes());
     assert_eq!((run.status, run.text.as_str()), (INPUT, ""));
@@ -164,11 +159,10 @@ fn a_long_list_is_cut_as_replay_cuts_it() {
 
 #[test]
 fn wrong_keys_are_told() {
-    let folder = "compare-wrong";
-    cli::folder(folder);
-    let (key, twice) = (file(folder, "key", b"ab"), file(folder, "twice", b"abab"));
-    let (empty, large) = (file(folder, "empty", b""), file(folder, "large", &[7; 65_537]));
-    let most = file(folder, "most", &[7; 65_536]);
+    let folder = folder("compare-wrong");
+    let (key, twice) = (file(&folder, "key", b"ab"), file(&folder, "twice", b"abab"));
+    let (empty, large) = (file(&folder, "empty", b""), file(&folder, "large", &[7; 65_537]));
+    let most = file(&folder, "most", &[7; 65_536]);
     let trace = example("07-two-runs-first.trace");
     for (words, part) in [
         (vec!["--key", &key, "--key", &key, &trace], "the two keys are the same"),
@@ -185,7 +179,7 @@ fn wrong_keys_are_told() {
         assert_eq!((run.status, run.text.as_str()), (USAGE, ""), "{words:?}");
         assert!(run.errors.contains(part), "{}", run.errors);
     }
-    let run = run(&["compare", "--key", &word(&examples().join("no-such-key")), &trace]);
+    let run = run(&["compare", "--key", &example("no-such-key"), &trace]);
     assert_eq!((run.status, run.text.as_str()), (FILE, ""));
     let run = run_with(&["compare", "--key", &most, "--key", "-", &trace], b"a key that is piped");
     assert_eq!((run.status, run.errors.as_str()), (DONE, ""));
@@ -194,9 +188,8 @@ fn wrong_keys_are_told() {
 /// The image is the memory of both runs but for the key.
 #[test]
 fn an_image_is_the_rest_of_memory() {
-    let folder = "compare-image";
-    cli::folder(folder);
-    let image = file(folder, "image", &vec![0x5A; 0xA_0008]);
+    let folder = folder("compare-image");
+    let image = file(&folder, "image", &vec![0x5A; 0xA_0008]);
     let trace = b"config write dev0.SMRAM 4Eh\nread1 9FFFFh\nsmm read1 A0000h\n";
     let words = ["compare", "--image", &image, "--memory=16M", "--board=dc100", "--text", "--color=never", "-"];
     let run = run_with(&words, trace);

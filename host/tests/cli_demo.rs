@@ -2,12 +2,12 @@
 
 mod cli;
 
-use cli::{examples, run, word, DONE};
+use cli::{example, run, DONE};
 
 /// The demo checks each expectation that `replay --check` finds in the sample, and the two keys.
 #[test]
 fn every_expectation_of_the_sample_is_checked() {
-    let sample = word(&examples().join("desk.trace"));
+    let sample = example("desk.trace");
     let checked = run(&["replay", "--check", &sample]);
     assert_eq!((checked.status, checked.errors.as_str()), (DONE, ""), "{}", checked.text);
     let count = checked

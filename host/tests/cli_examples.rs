@@ -4,7 +4,7 @@
 
 mod cli;
 
-use cli::{examples, folder, run, run_with, word, DONE};
+use cli::{example, examples, folder, run, run_with, word, DONE};
 use mitrophel::{record, Answer, Kind, Record};
 use std::fs;
 use std::path::{Path, PathBuf};
@@ -175,7 +175,7 @@ fn the_demo_tells_its_expected_tale() {
 fn the_map_after_the_desk_is_as_expected() {
     let folder = folder("map");
     let picture = folder.join("map.svg");
-    let run = run(&["map", "--svg", &word(&picture), &word(&examples().join("desk.trace"))]);
+    let run = run(&["map", "--svg", &word(&picture), &example("desk.trace")]);
     assert_eq!((run.status, run.errors.as_str()), (DONE, ""));
     expect(&examples().join("desk.map.expected"), &run.text);
     expect(&examples().join("desk.map.svg"), &fs::read_to_string(picture).expect("a picture"));

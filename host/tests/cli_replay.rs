@@ -296,10 +296,9 @@ fn csv_has_a_line_of_names_and_quotes_what_needs_it() {
 fn only_keeps_the_records_that_it_names() {
     let trace = format!(
         "{KEY}in4 CF8h\nfetch4 1000h\nmaster write4 1000h 7\nmaster read4 C0000h\nconfig write dev0.SMRAM 4Fh\n\
-         write IER 2\nwrite IMR 0\nread MMIO+2021h\nread4 3\nword 2000h 1000000h 0\nentry 0 2000h\n\
+         write IER 2\nwrite IMR 0\nread2 MMIO+2021h\nread4 3\nword 2000h 1000000h 0\nentry 0 2000h\n\
          write LP_RING_TAIL 8\nwrite LP_RING_LENGTH 1\nrun 2\nreset\nconfig write dev0.SMRAM 30h\nread4 7FFFFCh\n"
     );
-    let trace = trace.replace("read MMIO", "read2 MMIO");
     let all = run_with(&["replay", "-"], trace.as_bytes());
     assert_eq!(all.status, DONE, "{}", all.errors);
     let names = [

@@ -6,7 +6,7 @@ use cli::{finished, folder, names, run_with, word, CLOSED_PIPE, DONE, FILE, INPU
 use mitrophel::{record, Record};
 use std::ffi::{c_char, c_int, c_uint, CString, OsStr};
 use std::fs;
-use std::io::{Read, Write};
+use std::io::Write;
 use std::os::unix::ffi::OsStrExt;
 use std::os::unix::fs::{symlink, PermissionsExt};
 use std::os::unix::process::{CommandExt, ExitStatusExt};
@@ -264,13 +264,7 @@ fn a_dump_is_written_even_if_the_reader_of_the_answers_leaves() {
     records.push(Record::write(0x2000, 4, 0x4B45_5921, false));
     fs::write(folder.join("list"), record::encode(&records)).expect("a list");
     for words in [&["replay", "list", "--dump", "dump"][..], &["replay", "list", "--answers", "-", "--dump", "dump"]] {
-        let mut command = cli::program();
-        command.current_dir(&folder).args(words).stdout(Stdio::piped()).stderr(Stdio::piped());
-        let mut child = command.spawn().expect("the program starts");
-        let mut stdout = child.stdout.take().expect("a pipe");
-        stdout.read_exact(&mut [0; 16]).expect("the output's start");
-        drop(stdout);
-        let run = finished(child.wait_with_output().expect("the program ends"));
+        let run = cli::left_early(cli::program().current_dir(&folder).args(words));
         assert_eq!((run.status, run.errors.as_str()), (CLOSED_PIPE, ""), "{words:?}");
         let dump = fs::read(folder.join("dump")).expect("the dump");
         assert_eq!(dump[0x2000..0x2004], 0x4B45_5921_u32.to_le_bytes(), "{words:?}");

@@ -2,7 +2,7 @@
 
 mod cli;
 
-use cli::{examples, folder, run, run_with, word, DONE, INPUT, USAGE};
+use cli::{example, folder, run, run_with, DONE, INPUT, USAGE};
 use mitrophel::{record, Record};
 use std::fs;
 use std::process::Command;
@@ -201,7 +201,7 @@ fn dumped(text: &str) -> Vec<(String, Vec<u8>)> {
 
 #[test]
 fn configuration_space_is_dumped_for_lspci() {
-    let desk = word(&examples().join("desk.trace"));
+    let desk = example("desk.trace");
     let alone = run(&["state", "--lspci", &desk]);
     assert_eq!((alone.status, alone.errors.as_str()), (DONE, ""));
     let devices = dumped(&alone.text);
@@ -223,7 +223,7 @@ fn configuration_space_is_dumped_for_lspci() {
 fn lspci_reads_the_dump() {
     let folder = folder("lspci");
     let (dump, whole) = (folder.join("desk.pci"), folder.join("desk.state"));
-    let desk = word(&examples().join("desk.trace"));
+    let desk = example("desk.trace");
     fs::write(&dump, run(&["state", "--lspci", &desk]).text).expect("a dump");
     fs::write(&whole, run(&["state", &desk]).text).expect("a state");
     for file in [dump, whole] {

@@ -4,7 +4,7 @@
 
 mod cli;
 
-use cli::{examples, finished, folder, program, word, DONE, USAGE};
+use cli::{example, examples, finished, folder, program, word, DONE, USAGE};
 use mitrophel::{record, Record};
 use std::ffi::{c_char, c_int, c_ulong, c_ushort, CStr, OsStr};
 use std::fs::{self, File};
@@ -73,7 +73,7 @@ fn in_terminal(words: &[&str], environment: &[(&str, &str)]) -> (i32, String) {
 
 #[test]
 fn a_terminal_has_colour_unless_no_color_or_a_dumb_terminal_forbids_it() {
-    let trace = word(&examples().join("fault-1-entry-aimed-at-the-key.trace"));
+    let trace = example("fault-1-entry-aimed-at-the-key.trace");
     let red = "\u{1b}[1;31mrefused 6: entry 10's page A0000h is protected\u{1b}[0m";
     let (status, text) = in_terminal(&["replay", &trace], &[]);
     assert_eq!(status, DONE);
@@ -144,7 +144,7 @@ fn a_dumb_terminal_has_the_last_words_alone() {
 
 #[test]
 fn records_are_not_sent_to_a_terminal() {
-    let desk = word(&examples().join("desk.trace"));
+    let desk = example("desk.trace");
     let answers = word(&folder("terminal-answers").join("answers"));
     for words in [
         &["asm", &desk][..],

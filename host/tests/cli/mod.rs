@@ -3,7 +3,7 @@
 
 use std::ffi::OsStr;
 use std::fs;
-use std::io::Write;
+use std::io::{Read, Write};
 use std::path::{Path, PathBuf};
 use std::process::{Command, Output, Stdio};
 
@@ -52,6 +52,15 @@ pub fn run_with<S: AsRef<OsStr>>(words: &[S], input: &[u8]) -> Run {
     finished(output)
 }
 
+/// Runs a command whose reader leaves after the output's start, as `head` does.
+pub fn left_early(command: &mut Command) -> Run {
+    let mut child = command.stdout(Stdio::piped()).stderr(Stdio::piped()).spawn().expect("the program starts");
+    let mut stdout = child.stdout.take().expect("a pipe");
+    stdout.read_exact(&mut [0; 16]).expect("the output's start");
+    drop(stdout);
+    finished(child.wait_with_output().expect("the program ends"))
+}
+
 /// What a finished run left.
 pub fn finished(output: Output) -> Run {
     let run = Run {
@@ -67,6 +76,11 @@ pub fn finished(output: Output) -> Run {
 /// The sample traces.
 pub fn examples() -> PathBuf {
     Path::new(env!("CARGO_MANIFEST_DIR")).join("..").join("examples")
+}
+
+/// A sample trace, as a word of a command line.
+pub fn example(name: &str) -> String {
+    word(&examples().join(name))
 }
 
 /// An empty folder of this test's own.
