@@ -84,7 +84,7 @@ pub fn replay(board: u32, memory: &mut [u8], records: &[u8], answers: &mut [u8])
 /// assert_ne!(right, wrong);
 /// # }
 /// ```
-#[cfg_attr(not(feature = "faults"), doc(hidden), allow(private_bounds))]
+#[cfg_attr(not(feature = "faults"), doc(hidden))]
 pub fn replay_with<O: Observer, F: Faults>(
     board: u32,
     memory: &mut [u8],
@@ -130,7 +130,6 @@ struct Access {
 /// gmch.answer(&Record::io_write(0xCFC, 1, 0xBE));
 /// assert!(gmch.smram().locked() && gmch.protected(0xA_0000));
 /// ```
-#[allow(private_bounds, private_interfaces)]
 pub struct Gmch<'m, O = Unobserved, F = Faultless> {
     memory: &'m mut [u8],
     table: &'m mut Table,
@@ -191,7 +190,6 @@ impl<'m, O: Observer> Gmch<'m, O> {
     }
 }
 
-#[allow(private_bounds)]
 impl<'m, O: Observer, F: Faults> Gmch<'m, O, F> {
     /// The GMCH at cold start, with faults; none where the board kind or the memory's length is wrong. The
     /// table must be all zero, as it is at cold start.
