@@ -43,5 +43,5 @@ mod statement;
 pub mod words;
 
 pub use assemble::{assemble, assemble_with, Assembled, Expectation, Place};
-pub use errors::{Errors, TraceError, Warning};
+pub use errors::{acts_on_terminals, Errors, TraceError, Warning};
 pub use listing::{statement, Lister, REDACTED};

@@ -3,7 +3,7 @@
 
 mod cli;
 
-use cli::{examples, folder, names, run, run_with, word, DONE, FILE, INPUT, USAGE};
+use cli::{examples, folder, names, run, run_with, word, DONE, FILE, INPUT, UNMET, USAGE};
 use std::fs;
 
 #[test]
@@ -199,4 +199,12 @@ fn messages_hold_no_control_characters_of_the_input() {
     let run = run_with(&["asm", "-"], b"read4 \x1b[31mFOO\x07\n");
     assert_eq!(run.status, INPUT);
     assert!(!run.errors.contains(['\x1b', '\x07']), "{:?}", run.errors);
+    let run = run_with(&["replay", "--check", "--text", "-"], "reset #> \x1b[31mhub\u{9b}\n".as_bytes());
+    assert_eq!(run.status, UNMET);
+    assert!(run.text.contains("\n- \\x1b[31mhub\\xc2\\x9b\n"), "{:?}", run.text);
+    for text in ["read4 \u{202e}1000h\n", "include a\u{202e}b\n", "include \"gone\u{2028}\"\n"] {
+        let run = run_with(&["asm", "-"], text.as_bytes());
+        assert_eq!(run.status, INPUT, "{text:?}");
+        assert!(!run.errors.contains(['\u{202e}', '\u{2028}']), "{text:?}: {:?}", run.errors);
+    }
 }

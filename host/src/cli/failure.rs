@@ -1,5 +1,6 @@
 //! How a command ends.
 
+use mitrophel::trace::acts_on_terminals;
 use std::ffi::OsStr;
 use std::io::{self, Write};
 use std::os::unix::ffi::OsStrExt;
@@ -107,11 +108,10 @@ impl From<io::Error> for Failure {
 /// or turn the direction of text, and of no character at all are shown as `\x1b`.
 pub fn shown(text: impl AsRef<OsStr>) -> String {
     let escaped = |bytes: &[u8]| bytes.iter().map(|byte| format!("\\x{byte:02x}")).collect::<String>();
-    let acts = |c: char| c.is_control() || matches!(c, '\u{2028}'..='\u{202E}' | '\u{2066}'..='\u{2069}');
     let mut shown = String::new();
     for chunk in text.as_ref().as_bytes().utf8_chunks() {
         for c in chunk.valid().chars() {
-            if acts(c) {
+            if acts_on_terminals(c) {
                 shown.push_str(&escaped(c.to_string().as_bytes()));
             } else {
                 shown.push(c);

@@ -9,6 +9,20 @@ pub(super) const MOST_ERRORS: usize = 20;
 /// Warnings kept.
 pub(super) const MOST_WARNINGS: usize = 20;
 
+/// Whether a character does something to a terminal instead of being seen there: control characters, and those
+/// that end a line or turn the direction of text.
+///
+/// ```
+/// use mitrophel::trace::acts_on_terminals;
+///
+/// assert!("\u{1b}\n\u{9b}\u{202e}".chars().all(acts_on_terminals));
+/// assert!(!"K\u{e4}rtchen 1 \u{b7}".contains(acts_on_terminals));
+/// ```
+pub fn acts_on_terminals(c: char) -> bool {
+    let turns = matches!(c, '\u{61C}' | '\u{200E}' | '\u{200F}' | '\u{202A}'..='\u{202E}' | '\u{2066}'..='\u{2069}');
+    c.is_control() || turns || matches!(c, '\u{2028}' | '\u{2029}')
+}
+
 /// A line that is no access.
 ///
 /// ```

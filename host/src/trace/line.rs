@@ -1,5 +1,6 @@
 //! One line of a trace: its words and its comment.
 
+use super::errors::acts_on_terminals;
 use super::numbers::{self, NotANumber};
 
 /// What is wrong in a line, and where.
@@ -88,7 +89,7 @@ impl<'a> Word<'a> {
 
 /// A character as it may be shown on a terminal.
 pub(super) fn visible(c: char) -> char {
-    if c.is_control() && c != '\t' {
+    if acts_on_terminals(c) && c != '\t' {
         '\u{FFFD}'
     } else {
         c

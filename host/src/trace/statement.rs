@@ -1,5 +1,6 @@
 //! One statement, told by its words.
 
+use super::errors::acts_on_terminals;
 use super::line::{Fault, Word};
 use super::names;
 use super::numbers;
@@ -229,12 +230,12 @@ fn raw(reader: &mut Reader<'_, '_>) -> Result<Record, Fault> {
     Ok(Record::from_bytes(&bytes))
 }
 
-/// `include FILE`: the name is in quotes or not. It is shown in messages, so it has no control characters.
+/// `include FILE`: the name is in quotes or not. It is shown in messages, so no character in it acts on terminals.
 fn include<'a>(reader: &mut Reader<'a, '_>) -> Result<Statement<'a>, Fault> {
     const NAME: &str = "a file's name";
     let word = reader.next(NAME)?;
     let bytes = if word.text.starts_with('"') { word.quoted(NAME)? } else { word.text.into() };
-    let name = String::from_utf8(bytes).ok().filter(|name| !name.is_empty() && !name.contains(char::is_control));
+    let name = String::from_utf8(bytes).ok().filter(|name| !name.is_empty() && !name.contains(acts_on_terminals));
     Ok(Statement::Include(word, name.ok_or_else(|| word.expected(NAME))?))
 }
 
