@@ -8,14 +8,17 @@ use std::ffi::{c_char, c_int, c_uint, CString, OsStr};
 use std::fs;
 use std::io::Write;
 use std::os::unix::ffi::OsStrExt;
-use std::os::unix::fs::{symlink, PermissionsExt};
+use std::os::unix::fs::{chown, symlink, MetadataExt, PermissionsExt};
 use std::os::unix::process::{CommandExt, ExitStatusExt};
 use std::path::{Path, PathBuf};
 use std::process::{Child, Command, Stdio};
 use std::thread;
 use std::time::{Duration, Instant};
 
-const SIGNALS: [c_int; 3] = [1, 2, 15];
+/// Hangup, interrupt, quit, terminate and the end of the processor time.
+const SIGNALS: [c_int; 5] = [1, 2, 3, 15, 24];
+const RLIMIT_FSIZE: c_int = 1;
+const RLIMIT_CORE: c_int = 4;
 const RLIMIT_AS: c_int = 9;
 const SIG_DFL: usize = 0;
 const SIG_IGN: usize = 1;
@@ -32,8 +35,9 @@ extern "C" {
 fn program(mask: c_uint, action: usize) -> Command {
     let mut command = cli::program();
     let prepare = move || {
-        // SAFETY: in the child, before it becomes the program: both may be called there.
+        // SAFETY: in the child, before it becomes the program: all three may be called there.
         unsafe {
+            setrlimit(RLIMIT_CORE, &[0, 0]);
             umask(mask);
             for number in SIGNALS {
                 signal(number, action);
@@ -133,6 +137,35 @@ fn a_new_file_has_the_users_mode_and_a_dump_of_protected_memory_its_owners() {
     fs::set_permissions(folder.join("dump"), fs::Permissions::from_mode(0o644)).expect("permissions");
     run(0, &["replay", "trace", "--dump", "dump"]);
     assert_eq!(mode(&folder.join("dump")), 0o644, "the user's choice is kept");
+}
+
+/// A file keeps its group too: its permissions are meant for that one.
+#[test]
+fn a_file_that_is_written_anew_keeps_its_group() {
+    let folder = folder("group");
+    fs::write(folder.join("trace"), "config write dev0.SMRAM BEh\n").expect("a trace");
+    let dump = folder.join("dump");
+    fs::write(&dump, "old").expect("an old dump");
+    // Only the superuser can give a file to any group.
+    let given = chown(&dump, None, Some(1)).is_ok();
+    let group = fs::metadata(&dump).expect("the old dump").gid();
+    fs::set_permissions(&dump, fs::Permissions::from_mode(0o640)).expect("permissions");
+    let mut command = program(0, SIG_DFL);
+    command.current_dir(&folder).args(["replay", "trace", "--dump", "dump"]);
+    assert_eq!(finished(command.output().expect("the program ends")).status, DONE);
+    assert_eq!((fs::metadata(&dump).expect("the dump").gid(), mode(&dump)), (group, 0o640), "{given}");
+}
+
+/// A file that is longer than the user's limit is an error like a full disk, and leaves nothing.
+#[test]
+fn a_limit_of_file_lengths_leaves_nothing() {
+    let folder = folder("limit");
+    fs::write(folder.join("trace"), "reset\n").expect("a trace");
+    let mut command = within(RLIMIT_FSIZE, 1 << 20);
+    command.current_dir(&folder).args(["replay", "trace", "--dump", "dump"]);
+    let run = finished(command.output().expect("the program ends"));
+    assert_eq!((run.status, run.errors.as_str()), (FILE, "mitrophel: dump: File too large"));
+    assert_eq!(names(&folder), ["trace"]);
 }
 
 /// Two outputs that would be one file, however it is spelled, are refused before either is lost.
@@ -363,12 +396,12 @@ fn messages_hold_no_control_characters_of_names_and_words() {
     assert!(check.text.contains("\n- \\xc2\\x9b2J\n+ registers"), "{:?}", check.text);
 }
 
-/// The program with so many bytes of address space.
-fn within_memory(bytes: u64) -> Command {
+/// The program with so many bytes of a resource.
+fn within(resource: c_int, bytes: u64) -> Command {
     let mut command = cli::program();
     let prepare = move || {
         // SAFETY: in the child, before it becomes the program; the structure is two numbers, which lives long enough.
-        match unsafe { setrlimit(RLIMIT_AS, &[bytes, bytes]) } {
+        match unsafe { setrlimit(resource, &[bytes, bytes]) } {
             0 => Ok(()),
             _ => Err(std::io::Error::last_os_error()),
         }
@@ -396,7 +429,7 @@ fn an_endless_input_is_refused() {
         (&["asm", "-"], text),
         (&["audit", "-"], text),
     ] {
-        let mut command = within_memory(3 << 30);
+        let mut command = within(RLIMIT_AS, 3 << 30);
         command.current_dir(&folder).args(words).stdin(Stdio::piped()).stdout(Stdio::piped()).stderr(Stdio::piped());
         let mut child = command.spawn().expect("the program starts");
         let mut stdin = child.stdin.take().expect("a pipe");

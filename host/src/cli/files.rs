@@ -8,7 +8,7 @@ use std::fs::{self, File, Permissions};
 use std::io::{self, Read, Write};
 use std::os::fd::AsFd;
 use std::os::unix::ffi::OsStrExt;
-use std::os::unix::fs::{FileTypeExt, MetadataExt, OpenOptionsExt, PermissionsExt};
+use std::os::unix::fs::{fchown, FileTypeExt, MetadataExt, OpenOptionsExt, PermissionsExt};
 use std::path::{Path, PathBuf};
 use std::process;
 
@@ -216,6 +216,9 @@ impl Secrecy {
 /// The mode of a file that only its owner can read.
 const PRIVATE: u32 = 0o600;
 
+/// What a mode lets the group do, and the bit that runs a program as the group.
+const GROUP: u32 = 0o2070;
+
 /// A file that is removed unless it is renamed, by a signal too.
 pub struct Temporary {
     path: PathBuf,
@@ -280,7 +283,7 @@ impl<'a> Pending<'a> {
             old => {
                 let (file, temporary) = write_beside(&target, bytes).map_err(failure)?;
                 match old {
-                    Ok(data) => file.set_permissions(data.permissions()).map_err(failure)?,
+                    Ok(data) => keep_access(&file, &data).map_err(failure)?,
                     // Some file systems have no permissions to set.
                     Err(_) => drop(file.set_permissions(secrecy.permissions())),
                 }
@@ -308,6 +311,19 @@ pub fn print(bytes: &[u8]) -> Result<(), Failure> {
     let mut out = io::stdout().lock();
     out.write_all(bytes).and_then(|()| out.flush())?;
     Ok(())
+}
+
+/// Gives a new file the owner, group and permissions of the one whose place it takes. A group that the user may
+/// not give is not let in: the group that the new file has is another.
+fn keep_access(file: &File, old: &fs::Metadata) -> io::Result<()> {
+    let own = file.metadata()?;
+    if own.uid() != old.uid() {
+        // Only the superuser may; anybody else has made the file his own.
+        let _ = fchown(file, Some(old.uid()), None);
+    }
+    let kept = own.gid() == old.gid() || fchown(file, None, Some(old.gid())).is_ok();
+    let mode = old.permissions().mode();
+    file.set_permissions(Permissions::from_mode(if kept { mode } else { mode & !GROUP }))
 }
 
 /// Writes a new file in the folder of a file.

@@ -13,7 +13,10 @@ use std::sync::Once;
 
 const SIGHUP: c_int = 1;
 const SIGINT: c_int = 2;
+const SIGQUIT: c_int = 3;
 const SIGTERM: c_int = 15;
+const SIGXCPU: c_int = 24;
+const SIGXFSZ: c_int = 25;
 const SIG_DFL: usize = 0;
 const SIG_IGN: usize = 1;
 
@@ -40,7 +43,11 @@ pub struct Doomed(&'static AtomicPtr<c_char>);
 impl Doomed {
     pub fn new(path: &Path) -> io::Result<Doomed> {
         static HANDLED: Once = Once::new();
-        HANDLED.call_once(|| [SIGHUP, SIGINT, SIGTERM].into_iter().for_each(handle));
+        HANDLED.call_once(|| {
+            [SIGHUP, SIGINT, SIGQUIT, SIGTERM, SIGXCPU].into_iter().for_each(handle);
+            // SAFETY: from now on a file that is longer than the user's limit is an error of the write.
+            unsafe { signal(SIGXFSZ, SIG_IGN) };
+        });
         let path = CString::new(path.as_os_str().as_bytes())?.into_raw();
         let free = |slot: &&AtomicPtr<c_char>| {
             slot.compare_exchange(ptr::null_mut(), path, Ordering::Release, Ordering::Relaxed).is_ok()
