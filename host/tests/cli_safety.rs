@@ -226,6 +226,47 @@ fn an_output_does_not_replace_the_file_that_is_printed_to() {
     assert_eq!(run_with(&null, b"reset\n").status, DONE, "a device takes both");
 }
 
+/// What is read is not lost to what is written, however it is spelled.
+#[test]
+fn an_output_does_not_replace_a_file_that_is_read() {
+    let folder = folder("read");
+    let trace = b"config write dev0.SMRAM BEh  #> hub\n";
+    let records = record::encode(&[Record::reset()]);
+    for (file, bytes) in [("trace", &trace[..]), ("list", &records), ("image", &[1])] {
+        fs::write(folder.join(file), bytes).expect("a file");
+    }
+    symlink("trace", folder.join("link")).expect("a link");
+    fs::hard_link(folder.join("trace"), folder.join("hard")).expect("a second name");
+    let before = names(&folder);
+    let absolute = word(&folder.join("trace"));
+    for words in [
+        &["replay", "trace", "--dump", "./trace"][..],
+        &["replay", "trace", "--answers", "link"],
+        &["replay", "trace", "--bless", "--dump", "hard"],
+        &["replay", "trace", "--bless", "--answers", absolute.as_str()],
+        &["replay", "trace", "--memory", "8M", "--image", "image", "--answers", "image"],
+        &["replay", "-", "--dump", "trace"],
+        &["asm", "trace", "-o", "trace"],
+        &["asm", "-", "-o", "link"],
+        &["disasm", "list", "-o", "./list"],
+        &["map", "trace", "--svg", "hard"],
+        &["map", "--memory", "8M", "--image", "image", "--svg", "image"],
+    ] {
+        let mut command = cli::program();
+        let stdin = fs::File::open(folder.join("trace")).expect("the trace");
+        let run = finished(command.current_dir(&folder).args(words).stdin(stdin).output().expect("the program ends"));
+        assert_eq!(run.status, USAGE, "{words:?}: {}", run.errors);
+        assert!(run.errors.contains(" names a file that is read: "), "{words:?}: {}", run.errors);
+        assert_eq!(names(&folder), before, "{words:?}");
+        for (file, bytes) in [("trace", &trace[..]), ("list", &records), ("image", &[1])] {
+            assert_eq!(fs::read(folder.join(file)).expect("the file"), bytes, "{words:?}");
+        }
+    }
+    let image = ["replay", "trace", "--memory", "8M", "--image", "image", "--dump", "image"];
+    assert_eq!(finished(cli::program().current_dir(&folder).args(image).output().expect("the end")).status, DONE);
+    assert_eq!(fs::metadata(folder.join("image")).expect("the dump").len(), 8 << 20, "a dump goes on from its image");
+}
+
 /// A descriptor is written where it stands: what was there before stays, whatever file it is.
 #[test]
 fn a_descriptor_is_appended_to_and_never_replaced() {

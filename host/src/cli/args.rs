@@ -2,7 +2,7 @@
 
 use super::explain::Secrets;
 use super::failure::{shown, Failure};
-use super::files::Source;
+use super::files::{Sink, Source};
 use super::load::Form;
 use super::numbers;
 use super::style::Colour;
@@ -155,6 +155,19 @@ impl Options {
             0 | 1 => Ok(()),
             _ => Err(self.usage(wrong)),
         }
+    }
+
+    /// Asks that an option's output is none of the files that are read, which it would replace.
+    pub fn spares(&self, name: &str, sink: &Sink, read: impl IntoIterator<Item = Source>) -> Result<(), Failure> {
+        match read.into_iter().find(|source| sink.replaces(source)) {
+            Some(source) => Err(self.usage(format!("{name} names a file that is read: {}", source.name()))),
+            None => Ok(()),
+        }
+    }
+
+    /// `--image`
+    pub fn image(&self) -> Option<Source> {
+        self.value("--image").map(Source::named)
     }
 
     /// An option's value as a number of 32 bits.

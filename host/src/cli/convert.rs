@@ -25,6 +25,7 @@ pub fn asm(words: &[OsString]) -> Result<Status, Failure> {
     if sink == Sink::Standard && io::stdout().is_terminal() {
         return Err(options.usage("records are no text for a terminal: give --output FILE, or pipe them"));
     }
+    options.spares("--output", &sink, [source.clone()])?;
     let list = List::read_trace(&source)?;
     files::save(&sink, &list.records)?;
     Ok(Status::Done)
@@ -35,6 +36,7 @@ pub fn disasm(words: &[OsString]) -> Result<Status, Failure> {
     let options = DISASM.parse(words)?;
     let source = options.source()?;
     let sink = options.value("--output").map_or(Sink::Standard, Sink::named);
+    options.spares("--output", &sink, [source.clone()])?;
     let list = List::read_records(&source)?;
     let lister = Lister {
         macros: !options.has("--no-macros"),

@@ -59,6 +59,15 @@ impl Source {
         Ok(input.bytes)
     }
 
+    /// What tells a plain file from others.
+    fn identity(&self) -> Option<Identity> {
+        let data = match self {
+            Source::Standard => File::from(io::stdin().as_fd().try_clone_to_owned().ok()?).metadata(),
+            Source::File(path) => fs::metadata(path),
+        };
+        data.ok().filter(fs::Metadata::is_file).map(|data| Identity::Node(data.dev(), data.ino()))
+    }
+
     /// The length of a plain file; none for what can be read only once.
     pub fn length(&self) -> Option<u64> {
         match self {
@@ -130,6 +139,11 @@ impl Sink {
     pub fn same(&self, other: &Sink) -> bool {
         let both = (self.identity(), other.identity());
         (self == other && *self == Sink::Standard) || matches!(both, (Some(own), Some(other)) if own == other)
+    }
+
+    /// Whether the output would take the place of a file that is read.
+    pub fn replaces(&self, source: &Source) -> bool {
+        *self != Sink::Standard && source.identity().is_some_and(|read| self.identity() == Some(read))
     }
 
     /// What tells a file from others. A device such as /dev/null takes any number of outputs.

@@ -48,6 +48,9 @@ pub fn run(words: &[OsString]) -> Result<Status, Failure> {
         return Err(options.usage("--svg names the file that the map is printed to"));
     }
     options.one_standard_input(NOT_BOTH)?;
+    if let Some(sink) = &sink {
+        options.spares("--svg", sink, options.sources().into_iter().chain(options.image()))?;
+    }
     let memory = Memory::given(&options)?;
     let list = match options.source() {
         Ok(source) => traced(&options, &source)?,

@@ -51,7 +51,7 @@ fn run_by(words: &[OsString], call: Call) -> Result<Status, Failure> {
     let form = options.form()?;
     let source = options.source()?;
     let task = Task::given(&options, &source)?;
-    let outputs = Outputs::given(&options, !matches!(task, Task::Silent))?;
+    let outputs = Outputs::given(&options, &source, !matches!(task, Task::Silent))?;
     options.one_standard_input(NOT_BOTH)?;
     let memory = Memory::given(&options)?;
     let bytes = source.read()?;
@@ -277,7 +277,7 @@ impl Outputs {
     }
 
     /// `printed` says that something is printed beside them.
-    fn given(options: &Options, printed: bool) -> Result<Outputs, Failure> {
+    fn given(options: &Options, source: &Source, printed: bool) -> Result<Outputs, Failure> {
         let outputs = Outputs {
             answers: options.value("--answers").map(Sink::named),
             dump: options.value("--dump").map(Sink::named),
@@ -299,6 +299,13 @@ impl Outputs {
                 Some(Sink::Standard) => format!("{name} - would stand among what is printed: give a file"),
                 _ => format!("{name} names the file that the answers are printed to"),
             }));
+        }
+        if let Some(dump) = &outputs.dump {
+            // Not the image: a dump may take its place, to go on from.
+            options.spares("--dump", dump, [source.clone()])?;
+        }
+        if let Some(answers) = &outputs.answers {
+            options.spares("--answers", answers, [source.clone()].into_iter().chain(options.image()))?;
         }
         let standard = [&outputs.answers, &outputs.dump].contains(&&Some(Sink::Standard));
         if standard && io::stdout().is_terminal() {
