@@ -207,6 +207,19 @@ fn what_the_toolchain_says_is_shown_if_it_fails() {
     assert_eq!(own.read("target/staticlib/libdesk.a.made-from"), before);
 }
 
+/// A toolchain that ends well without an archive does not pass the old one off as made from these sources.
+#[test]
+fn an_archive_of_before_is_not_taken_for_the_new_one() {
+    let own = Repository::made("left");
+    own.write("crates/desk/src/lib.rt", "changed");
+    own.write("bin/rt", "#!/bin/sh\necho kit 1\n");
+    for _ in 0..2 {
+        let run = own.archive(&[]);
+        assert!(!run.status.success());
+        assert!(String::from_utf8_lossy(&run.stderr).contains("wrote no target/staticlib/libdesk.a"), "{run:?}");
+    }
+}
+
 /// Cargo runs the script again after `tools/archive` made another archive, and not after the script itself did.
 #[test]
 fn cargo_runs_the_script_only_when_there_is_need() {
