@@ -14,8 +14,11 @@ const PARTS: [&str; 3] = ["src", "specs", "proofs"];
 
 fn main() {
     let began = SystemTime::now();
-    let host = PathBuf::from(env::var_os("CARGO_MANIFEST_DIR").expect("cargo names the package"));
-    let root = host.parent().expect("the package lies in the repository");
+    // Cargo keeps what is said here. So that a copy of the repository, with all that was built, does not look at the
+    // sources and the archive of the first, paths are relative to the package, where cargo runs the script, and the
+    // archive that is linked lies in the script's own folder, which cargo finds again.
+    let root = Path::new("..");
+    let out = PathBuf::from(env::var_os("OUT_DIR").expect("cargo names a folder"));
     let folder = root.join("target").join("staticlib");
     let made = [folder.join("libdesk.a"), folder.join("libdesk.a.made-from")];
 
@@ -25,13 +28,16 @@ fn main() {
             fail(&format!("cannot date {}: {error}", file.display()));
         }
     }
+    if let Err(error) = fs::copy(&made[0], out.join("libdesk.a")) {
+        fail(&format!("cannot copy {}: {error}", made[0].display()));
+    }
     for source in sources(root).iter().chain(&made) {
         println!("cargo::rerun-if-changed={}", source.display());
     }
     let note = fs::read_to_string(&made[1]).unwrap_or_default();
     println!("cargo::rustc-env=MITROPHEL_ARCHIVE_SHA256={}", noted(&note, "archive"));
     println!("cargo::rustc-env=MITROPHEL_TOOLCHAIN={}", noted(&note, "toolchain"));
-    println!("cargo::rustc-link-search=native={}", folder.display());
+    println!("cargo::rustc-link-search=native={}", out.display());
     println!("cargo::rustc-link-lib=static=desk");
 }
 

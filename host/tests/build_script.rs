@@ -242,6 +242,26 @@ fn cargo_runs_the_script_only_when_there_is_need() {
     assert_eq!(runs(), 3);
 }
 
+/// A copy of a built repository looks at its own archive and sources, not at those of the first.
+#[test]
+fn a_copy_is_a_repository_of_its_own() {
+    let first = Repository::new("copied");
+    first.write("host/Cargo.toml", "[package]\nname = \"small\"\nedition = \"2021\"\n[workspace]\n");
+    first.write("host/src/lib.rs", "pub const ARCHIVE: &str = env!(\"MITROPHEL_ARCHIVE_SHA256\");\n");
+    first.copy("build.rs", "host/build.rs");
+    first.cargo();
+    let copy = Repository(folder("archive-copy"));
+    let copied = Command::new("cp").arg("-a").arg(first.0.join(".")).arg(&copy.0).status().expect("cp runs");
+    assert!(copied.success());
+    let before = copy.asked("staticlib desk");
+    copy.cargo();
+    assert_eq!(copy.asked("staticlib desk"), before, "nothing has changed");
+    copy.write("crates/desk/src/lib.rt", "changed");
+    copy.cargo();
+    assert_eq!((copy.asked("staticlib desk"), first.asked("staticlib desk")), (before + 1, before));
+    assert!(copy.read("target/staticlib/libdesk.a").contains("changed"));
+}
+
 /// The archive that these tests are linked with is made from the sources that stand here.
 #[test]
 fn the_archive_is_made_from_these_sources() {
