@@ -207,9 +207,9 @@ Without FILE:
 
 It is found by asking the proved call: a read by each of the first three, and
 a read through the window where an entry names a page of a board with the same
-SMRAM; protected is what that read is refused 6 for. The rule numbers, and with
-them what sets the error bit, come from the reference, whose answers are the
-same.
+SMRAM, but graphics on; protected is what that read is refused 6 for. The rule
+numbers, and with them what sets the error bit, come from the reference, whose
+answers are the same.
 
 Example:
   mitrophel map --smram BEh --window C0000000h --svg map.svg
