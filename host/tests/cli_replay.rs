@@ -236,6 +236,27 @@ fn values_of_memory_that_is_protected_at_some_time_are_not_shown() {
     assert!(run.text.contains("raw 05 04 01 00 00 00 0A 00 \u{B7}\u{B7} \u{B7}\u{B7} "), "{}", run.text);
 }
 
+/// A value that management mode meant for protected memory is not shown because it did not get there.
+#[test]
+fn values_that_were_refused_by_protected_memory_are_not_shown() {
+    for (smram, writes) in [
+        ("4Eh", "smm write3 A0000h 4B455921h\nsmm write4 A0002h 4B455921h\n"),
+        ("4Ah", "smm write4 A0000h 4B455921h\n"),
+        ("B2h", "smm write3 700000h 4B455921h\nsmm write4 FEEA0002h 4B455921h\nsmm write4 A0000h 4B455921h\n"),
+    ] {
+        let trace = format!("config write dev0.SMRAM {smram}\n{writes}");
+        for form in ["--lines", "--json", "--csv"] {
+            let hidden = run_with(&["replay", form, "-"], trace.as_bytes());
+            assert_eq!(hidden.status, DONE);
+            let shown = run_with(&["replay", form, "--show-protected", "-"], trace.as_bytes());
+            for value in ["4B455921", "1262836001"].iter().filter(|value| shown.text.contains(**value)) {
+                assert!(!hidden.text.contains(value), "{smram} {form}: {}", hidden.text);
+            }
+            assert_ne!(hidden.text, shown.text, "{smram} {form}");
+        }
+    }
+}
+
 #[test]
 fn a_dump_is_whole_and_private_or_redacted_and_open() {
     let folder = folder("dump");

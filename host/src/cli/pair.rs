@@ -166,13 +166,13 @@ impl Pair {
     }
 }
 
-/// Whether a record's value is of protected or guarded memory. A write that is refused has a value too, and so
-/// has the word that the parser does not know.
+/// Whether a record's value is of protected or guarded memory. A write that is refused has a value too, one of
+/// management mode that went elsewhere was meant for it, and the word that the parser does not know is shown.
 fn is_secret(hub: &Hub<'_>, guarded: &[Range<u32>], record: &Record, answer: &Answer, heard: &Heard) -> bool {
     let guards = |address| hub.protected(address) || guarded.iter().any(|range| range.contains(&address));
     match record.kind() {
         Some(Kind::Run) if answer.refusal() != Some(Refusal::UnknownInstruction) => heard.protected,
-        Some(kind) if kind.is_write() && answer.code != 0 => {
+        Some(kind) if kind.is_write() && (answer.code != 0 || record.is_management() && heard.last.is_none()) => {
             let start = match record.address {
                 // The HSEG stands for A0000h to BFFFFh.
                 high @ 0xFEEA_0000..=0xFEEB_FFFF => high - 0xFEEA_0000 + 0xA_0000,
