@@ -97,6 +97,7 @@ fn jobs_change_nothing_of_what_is_told() {
             records.extend(vec![Record::read(0x1001, 4, false); 1 + number]);
         }
         match number % 5 {
+            2 => fs::write(&path, "read4 4096\nread4 1001h\n").expect("a trace that is warned of"),
             3 => fs::write(&path, [0; 17]).expect("a list that is cut off"),
             4 => {}
             _ => save(&path, &records),
@@ -115,6 +116,7 @@ fn jobs_change_nothing_of_what_is_told() {
     assert!(one.1.starts_with("17 files, "), "{}", one.1);
     assert!(one.2.lines().count() > 20, "{}", one.2);
     assert!(one.2.contains("mitrophel: standard input:1: refused 2"), "{}", one.2);
+    assert_eq!(one.2.matches("warning: 4096 is decimal").count(), 5, "{}", one.2);
     for jobs in [&["--jobs=2"][..], &["--jobs", "5"], &["--jobs", "4000000000"], &[]] {
         assert_eq!(told(jobs), one, "{jobs:?}");
     }

@@ -12,6 +12,7 @@ use super::progress::Progress;
 use super::style::Style;
 use mitrophel::call::gmch_replay;
 use mitrophel::record::{self, MAX_RECORDS, RECORD_BYTES};
+use mitrophel::trace::Warning;
 use mitrophel::{Answer, Board, Refusal, Target};
 use std::collections::BTreeMap;
 use std::ffi::OsString;
@@ -136,8 +137,8 @@ impl Audit {
     }
 }
 
-/// A file's number and what came of it.
-type Done = (usize, Result<Tally, Failure>);
+/// A file's number, what its reader warns of, and what came of it.
+type Done = (usize, Vec<Warning>, Result<Tally, Failure>);
 
 /// What the jobs of an audit share.
 struct Night<'a> {
@@ -156,12 +157,13 @@ impl Night<'_> {
         loop {
             let index = self.next.fetch_add(1, Ordering::Relaxed);
             let Some(source) = self.sources.get(index).filter(|_| self.wants(index)) else { return };
-            let result = self.file(index, source);
+            let mut warnings = Vec::new();
+            let result = self.file(index, source, &mut warnings);
             if result.as_ref().is_err_and(|failure| !leaves_out(failure)) {
                 self.last.fetch_min(index, Ordering::Relaxed);
             }
             // Nobody listens once the audit has ended.
-            let _ = done.send((index, result));
+            let _ = done.send((index, warnings, result));
         }
     }
 
@@ -170,9 +172,12 @@ impl Night<'_> {
     }
 
     /// Replays one file from a cold start on fresh memory, for as long as it is wanted.
-    fn file(&self, index: usize, source: &Source) -> Result<Tally, Failure> {
+    fn file(&self, index: usize, source: &Source, warnings: &mut Vec<Warning>) -> Result<Tally, Failure> {
         let audit = self.audit;
         let mut calls = Calls::open(source, audit.form)?;
+        if let Some(list) = &mut calls.list {
+            warnings.append(&mut list.warnings);
+        }
         let mut engine = Engine::new(audit);
         let mut tally = Tally { files: 1, ..Tally::default() };
         while let Some(records) = calls.next()?.filter(|_| self.wants(index)) {
@@ -196,14 +201,17 @@ impl Night<'_> {
         let mut failed = None;
         let mut waiting = BTreeMap::new();
         let mut said = 0;
-        for (index, result) in results {
+        for (index, warnings, result) in results {
             let result = result.map(|tally| {
                 total.add(&tally);
                 tally.denials(&self.sources[index].name())
             });
-            waiting.insert(index, result);
-            while let Some(result) = waiting.remove(&said) {
+            waiting.insert(index, (warnings, result));
+            while let Some((warnings, result)) = waiting.remove(&said) {
                 said += 1;
+                for warning in warnings {
+                    self.say(|| complain(&warning.to_string()));
+                }
                 match result {
                     Ok(None) => {}
                     Ok(Some(denials)) => self.say(|| complain(&denials)),

@@ -5,7 +5,7 @@ use super::failure::{complain, shown, Failure, Status};
 use super::files::{Input, Source};
 use super::{numbers, pair, trace};
 use mitrophel::record::{self, MAX_RECORDS, RECORD_BYTES};
-use mitrophel::trace::{Assembled, Expectation, Place};
+use mitrophel::trace::{Assembled, Expectation, Place, Warning};
 use mitrophel::{is_memory_length, Record};
 use std::io;
 use std::ops::Range;
@@ -51,6 +51,7 @@ pub struct List {
     /// The place of each record of a text trace; of a binary list, nothing.
     places: Vec<Place>,
     expectations: Vec<Expectation>,
+    pub warnings: Vec<Warning>,
 }
 
 impl List {
@@ -62,7 +63,7 @@ impl List {
     /// The same, of what was read.
     pub fn of(source: &Source, bytes: Vec<u8>, form: Option<Form>) -> Result<List, Failure> {
         match form.unwrap_or_else(|| Form::of(&bytes)) {
-            Form::Text => List::text(source, &bytes),
+            Form::Text => List::text(source, &bytes).map(List::warned),
             Form::Binary => List::binary(source.name(), bytes),
         }
     }
@@ -75,7 +76,7 @@ impl List {
             let found = "expected a text trace, found the binary form, which 'mitrophel disasm' lists";
             return Err(Failure::input(format!("{}: {found}", source.name())));
         }
-        List::text(source, &bytes)
+        List::text(source, &bytes).map(List::warned)
     }
 
     /// Reads the records that a source must be.
@@ -93,7 +94,13 @@ impl List {
         !self.places.is_empty() || self.records.is_empty()
     }
 
-    /// The text trace that a source is.
+    /// The same list, its warnings told.
+    fn warned(self) -> List {
+        self.warnings.iter().for_each(|warning| complain(&warning.to_string()));
+        self
+    }
+
+    /// The text trace that a source is. Its warnings are yet to be told.
     pub fn of_text(input: &mut Input) -> Result<List, Failure> {
         input.fill_whole()?;
         List::text(&input.source, &input.bytes)
@@ -107,13 +114,12 @@ impl List {
         let assembled = trace::assemble_with(&source.name(), &text, include);
         let assembled = assembled.map_err(|errors| Failure::trace(status, errors.to_string()))?;
         let Assembled { records, places, files, expectations, warnings } = assembled;
-        warnings.iter().for_each(|warning| complain(&warning.to_string()));
-        Ok(List { files, records, places, expectations })
+        Ok(List { files, records, places, expectations, warnings })
     }
 
     pub fn binary(name: String, records: Vec<u8>) -> Result<List, Failure> {
         whole_records(&name, records.len() as u64)?;
-        Ok(List { files: vec![name], records, places: Vec::new(), expectations: Vec::new() })
+        Ok(List { files: vec![name], records, places: Vec::new(), expectations: Vec::new(), warnings: Vec::new() })
     }
 
     /// A record, from 0.
