@@ -8,7 +8,7 @@ use std::ffi::{c_char, c_int, c_uint, CString, OsStr};
 use std::fs;
 use std::io::Write;
 use std::os::unix::ffi::OsStrExt;
-use std::os::unix::fs::{chown, symlink, MetadataExt, PermissionsExt};
+use std::os::unix::fs::{chown, symlink, MetadataExt, OpenOptionsExt, PermissionsExt};
 use std::os::unix::process::{CommandExt, ExitStatusExt};
 use std::path::{Path, PathBuf};
 use std::process::{Child, Command, Stdio};
@@ -17,6 +17,7 @@ use std::time::{Duration, Instant};
 
 /// Hangup, interrupt, quit, terminate and the end of the processor time.
 const SIGNALS: [c_int; 5] = [1, 2, 3, 15, 24];
+const O_NONBLOCK: c_int = 0o4000;
 const RLIMIT_FSIZE: c_int = 1;
 const RLIMIT_CORE: c_int = 4;
 const RLIMIT_AS: c_int = 9;
@@ -77,13 +78,24 @@ fn until<T>(mut ask: impl FnMut() -> Option<T>) -> T {
     }
 }
 
+/// A program that does not outlive a test that fails.
+struct Running(Child);
+
+impl Drop for Running {
+    fn drop(&mut self) {
+        // It has ended already unless the test failed.
+        let _ = self.0.kill();
+        let _ = self.0.wait();
+    }
+}
+
 /// A replay that has written its dump under another name and waits for a reader of its answers.
-fn waiting(folder: &Path, action: usize) -> (Child, PathBuf) {
+fn waiting(folder: &Path, action: usize) -> (Running, PathBuf) {
     fifo(&folder.join("answers"));
     fs::write(folder.join("trace"), "write4 A0000h 4B455921h\n").expect("a trace");
     let mut command = program(0, action);
     command.current_dir(folder).args(["replay", "--answers", "answers", "--dump", "dump", "trace"]);
-    let child = command.stdin(Stdio::null()).stdout(Stdio::null()).spawn().expect("the program starts");
+    let child = Running(command.stdin(Stdio::null()).stdout(Stdio::null()).spawn().expect("the program starts"));
     let temporary = until(|| {
         let name = names(folder).into_iter().find(|name| name.ends_with(".tmp"))?;
         Some(folder.join(name)).filter(|path| fs::metadata(path).is_ok_and(|data| data.len() == 8 << 20))
@@ -97,11 +109,11 @@ fn a_signal_removes_what_is_not_yet_in_its_place() {
     for number in SIGNALS {
         let folder = folder(&format!("signal-{number}"));
         fs::write(folder.join("dump"), "old").expect("an old dump");
-        fs::set_permissions(folder.join("dump"), fs::Permissions::from_mode(0o600)).expect("permissions");
+        fs::set_permissions(folder.join("dump"), fs::Permissions::from_mode(0o644)).expect("permissions");
         let (mut child, temporary) = waiting(&folder, SIG_DFL);
         assert_eq!(mode(&temporary), 0o600);
-        send(&child, number);
-        let status = child.wait().expect("the program ends");
+        send(&child.0, number);
+        let status = child.0.wait().expect("the program ends");
         assert_eq!(status.signal(), Some(number), "{status}");
         assert_eq!(names(&folder), ["answers", "dump", "trace"]);
         assert_eq!(fs::read(folder.join("dump")).expect("the old dump"), b"old");
@@ -113,9 +125,13 @@ fn a_signal_removes_what_is_not_yet_in_its_place() {
 fn an_ignored_signal_stays_ignored() {
     let folder = folder("ignored");
     let (mut child, _) = waiting(&folder, SIG_IGN);
-    SIGNALS.iter().for_each(|&number| send(&child, number));
-    assert_eq!(fs::read(folder.join("answers")).expect("the answers").len(), 16);
-    assert_eq!(child.wait().expect("the program ends").code(), Some(DONE));
+    SIGNALS.iter().for_each(|&number| send(&child.0, number));
+    let fifo = fs::File::options().read(true).custom_flags(O_NONBLOCK).open(folder.join("answers"));
+    let mut answers = fifo.expect("the answers");
+    // A killed program has written nothing, and must not be waited for.
+    until(|| child.0.try_wait().expect("a child"));
+    assert_eq!(answers.read(&mut [0; 32]).expect("the answers"), 16);
+    assert_eq!(child.0.wait().expect("the program ends").code(), Some(DONE));
     assert_eq!(names(&folder), ["answers", "dump", "trace"]);
 }
 

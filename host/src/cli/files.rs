@@ -234,7 +234,7 @@ const PRIVATE: u32 = 0o600;
 const GROUP: u32 = 0o2070;
 
 /// A file that is removed unless it is renamed, by a signal too.
-pub struct Temporary {
+struct Temporary {
     path: PathBuf,
     renamed: bool,
     _doomed: Doomed,
@@ -278,8 +278,27 @@ pub enum Pending<'a> {
     Standard(&'a [u8]),
     /// A device, a pipe, an open descriptor: something that no file may take the place of.
     Direct(PathBuf, &'a [u8]),
-    /// The whole output under another name.
-    Written(PathBuf, Temporary),
+    Written(PathBuf, Written),
+}
+
+/// The whole output under another name. It is its owner's alone until it takes its place.
+pub struct Written {
+    temporary: Temporary,
+    file: File,
+    /// The file that was there before.
+    old: Option<fs::Metadata>,
+    secrecy: Secrecy,
+}
+
+impl Written {
+    fn rename(self, target: &Path) -> io::Result<()> {
+        match &self.old {
+            Some(old) => keep_access(&self.file, old)?,
+            // Some file systems have no permissions to set.
+            None => drop(self.file.set_permissions(self.secrecy.permissions())),
+        }
+        self.temporary.rename(target)
+    }
 }
 
 impl<'a> Pending<'a> {
@@ -296,13 +315,8 @@ impl<'a> Pending<'a> {
             }
             old => {
                 let (file, temporary) = write_beside(&target, bytes).map_err(failure)?;
-                match old {
-                    Ok(data) => keep_access(&file, &data).map_err(failure)?,
-                    // Some file systems have no permissions to set.
-                    Err(_) => drop(file.set_permissions(secrecy.permissions())),
-                }
                 file.sync_all().map_err(failure)?;
-                Ok(Pending::Written(target, temporary))
+                Ok(Pending::Written(target, Written { temporary, file, old: old.ok(), secrecy }))
             }
         }
     }
@@ -315,7 +329,7 @@ impl<'a> Pending<'a> {
                 let written = File::options().append(true).open(&path).and_then(|mut file| file.write_all(bytes));
                 written.map_err(|error| Failure::file(&path, &error))
             }
-            Pending::Written(path, temporary) => temporary.rename(&path).map_err(|error| Failure::file(&path, &error)),
+            Pending::Written(path, written) => written.rename(&path).map_err(|error| Failure::file(&path, &error)),
         }
     }
 }
@@ -344,6 +358,7 @@ fn keep_access(file: &File, old: &fs::Metadata) -> io::Result<()> {
 fn write_beside(target: &Path, bytes: &[u8]) -> io::Result<(File, Temporary)> {
     let (mut file, temporary) = Temporary::create(target.parent().unwrap_or(Path::new("/")))?;
     file.write_all(bytes)?;
+    file.sync_all()?;
     Ok((file, temporary))
 }
 
