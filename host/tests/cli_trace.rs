@@ -256,14 +256,19 @@ fn a_decimal_address_is_warned_of_and_taken() {
 
 /// Every protected place in turn, and beside it one that is not.
 const KEYS: &str = "\
+write4 A0000h 00000000h
+config write dev0.SMRAM 44h
+write4 A0000h 0BADCAFEh
+master write2 BFFFCh CAFEh
 config write dev0.SMRAM 4Ch
 smm write4 A0000h 0BADCAFEh
+write4 A0000h 00000004h
 smm write2 BFFFEh CAFEh
 smm write4 9FFFCh 00000001h
 config write dev0.SMRAM 20h
 smm write1 FEEA0000h FEh
 smm write4 1FFFFFFCh 0BADCAFEh
-smm write4 76FFFCh 00000002h
+smm write4 6FFFFCh 00000002h
 config write dev0.SMRAM BEh
 smm write4 700000h 0BADCAFEh
 write4 700000h 00000003h
@@ -278,17 +283,32 @@ fn a_listing_leaves_out_what_management_mode_writes_into_protected_memory() {
     let redacted = ["0BADCAFEh", "CAFEh", "FEh"]
         .iter()
         .fold(KEYS.to_string(), |text, value| text.replace(&format!(" {value}\n"), " \u{B7}\u{B7}\n"));
-    assert_eq!(redacted.matches("\u{B7}\u{B7}").count(), 5);
+    assert_eq!(redacted.matches("\u{B7}\u{B7}").count(), 7);
     assert_eq!(hidden.text, redacted);
 
     let again = run_with(&["asm", "-"], &hidden.out);
     assert_eq!(again.status, INPUT);
-    let first = "standard input:2:19: a redacted value: list the records with --show-protected\n";
+    let first = "standard input:3:15: a redacted value: list the records with --show-protected\n";
     assert!(again.errors.starts_with(first), "{}", again.errors);
 
     let shown = run_with(&["disasm", "--no-comments", "--show-protected", "-"], &records);
     assert_eq!(shown.text, KEYS);
     assert!(run_with(&["asm", "-"], &shown.out).out == records);
+}
+
+/// Nor does a record that breaks the layout show what it was to write.
+#[test]
+fn a_raw_line_leaves_out_what_was_meant_for_protected_memory() {
+    let trace = b"config write dev0.SMRAM 4Eh\nraw 05 04 01 01 00 00 0A 00 FE CA AD 0B 00 00 00 00\n";
+    let listing = run_with(&["disasm", "-"], &run_with(&["asm", "-"], trace).out);
+    let raw = "raw 05 04 01 01 00 00 0A 00 \u{B7}\u{B7} \u{B7}\u{B7} \u{B7}\u{B7} \u{B7}\u{B7} 00 00 00 00";
+    assert_eq!(listing.text.lines().last(), Some(raw));
+    let again = run_with(&["asm", "-"], &listing.out);
+    assert!(
+        again.errors.contains(":2:29: a redacted value: list the records with --show-protected"),
+        "{}",
+        again.errors
+    );
 }
 
 /// Comments and macros do not tell what is left out either.

@@ -7,8 +7,8 @@
 
 use super::names::Bases;
 use crate::board::Board;
-use crate::record::{Kind, Record};
-use crate::reference::{Gmch, Table, TABLE_WORDS};
+use crate::record::{self, Kind, Record};
+use crate::reference::{Gmch, Lsmm, Table, TABLE_WORDS};
 
 /// What the followed hub stands on. No name depends on the board or on the size of its memory.
 pub struct Ground {
@@ -63,24 +63,68 @@ impl<'m> Follower<'m> {
         &self.hub
     }
 
-    /// Whether SMRAM, as it is at the next record, protects what management mode writes at this address on a
-    /// board with some length of memory. The TSEG is at the end of memory, whose length is a multiple of
-    /// 8 MiB and at most 512 MiB.
-    pub fn protects(&self, address: u32) -> bool {
-        const MIB: u32 = 1 << 20;
-        let physical = match address {
-            0xFEEA_0000..=0xFEEB_FFFF if self.hub.smram().hseg_acts() => address - 0xFEEA_0000 + 0xA_0000,
-            0..0x2000_0000 if address % (8 * MIB) >= 7 * MIB => address % (8 * MIB),
-            _ => address,
-        };
-        self.hub.protected(physical)
-    }
-
     /// Takes note of a record.
     pub fn note(&mut self, record: &Record) {
         if matches!(record.kind(), Some(Kind::IoWrite | Kind::Reset)) {
             self.hub.answer(record);
         }
+    }
+}
+
+/// Whether a list of records holds values that a listing leaves out: it is not for everybody.
+///
+/// ```
+/// use mitrophel::trace::{self, follow};
+///
+/// let key = trace::assemble("config write dev0.SMRAM 4Eh\nsmm write4 A0000h 4B455921h\n")?;
+/// assert!(follow::holds_secrets(&key.records));
+/// assert!(!follow::holds_secrets(&key.records[..32]));
+/// # Ok::<(), trace::Errors>(())
+/// ```
+pub fn holds_secrets(records: &[u8]) -> bool {
+    let records: Vec<Record> = record::decode(records).collect();
+    let guard = Guard::of(&records);
+    let mut ground = Ground::new();
+    let mut follower = Follower::new(&mut ground);
+    records.iter().any(|record| {
+        follower.note(record);
+        guard.hides(record, &follower)
+    })
+}
+
+/// Places whose values are not for everybody: those that SMRAM protects at some time of a list, on a board with
+/// some length of memory. The TSEG is at the end of memory, whose length is a multiple of 8 MiB and at most
+/// 512 MiB.
+#[derive(Clone, Copy, Debug, Default)]
+pub struct Guard {
+    low: bool,
+    /// The largest TSEG.
+    tseg: u32,
+}
+
+impl Guard {
+    /// Only configuration writes and resets decide what is protected.
+    pub fn of(records: &[Record]) -> Guard {
+        let mut ground = Ground::new();
+        let mut follower = Follower::new(&mut ground);
+        let mut guard = Guard::default();
+        for record in records {
+            follower.note(record);
+            guard.low |= follower.hub.protected(0xA_0000);
+            guard.tseg = guard.tseg.max(follower.hub.smram().tseg_bytes());
+        }
+        guard
+    }
+
+    /// Whether what a record writes is left out of a listing: what management mode writes to such a place, and
+    /// what anybody writes to A0000h-BFFFFh while that is open to all.
+    pub fn hides(self, record: &Record, follower: &Follower<'_>) -> bool {
+        const MIB: u32 = 1 << 20;
+        let low = matches!(record.address, 0xA_0000..=0xB_FFFF | 0xFEEA_0000..=0xFEEB_FFFF) && self.low;
+        let tseg = record.address < 512 * MIB && record.address % (8 * MIB) >= 8 * MIB - self.tseg;
+        let open = follower.hub.smram().lsmm() == Lsmm::General;
+        let writes = matches!(record.kind(), Some(Kind::Write | Kind::MasterWrite));
+        writes && (record.is_management() && (low || tseg) || open && low)
     }
 }
 
@@ -93,35 +137,54 @@ mod tests {
     /// The two sides of each edge of what SMRAM protects.
     #[test]
     fn protected_places_follow_smram() {
-        let low = [0xA_0000, 0xB_FFFF];
-        let alias = [0xFEEA_0000, 0xFEEB_FFFF];
+        let low = [0xA_0000, 0xB_FFFF, 0xFEEA_0000, 0xFEEB_FFFF];
         let small = [0x78_0000, 0x7F_FFFF, 0x1FF8_0000, 0x1FFF_FFFF];
         let large = [0x70_0000, 0xF0_0000, 0x1FF0_0000];
         let never =
             [0x9_FFFF, 0xC_0000, 0x6F_FFFF, 0x80_0000, 0x8A_0000, 0xEF_FFFF, 0x207F_FFFF, 0xFEE9_FFFF, 0xFEEC_0000];
-        for (smram, low_is, alias_is, small_is, large_is) in [
-            (0x00, false, false, false, false),
-            (0x04, false, false, false, false),
-            (0x08, true, false, false, false),
-            (0x4E, true, false, false, false),
-            (0x10, true, true, false, false),
-            (0x1C, true, false, false, false),
-            (0x20, true, true, true, false),
-            (0x24, false, false, true, false),
-            (0xBE, true, false, true, true),
-            (0x30, true, true, true, true),
+        for (smram, low_is, small_is, large_is) in [
+            (0x00, false, false, false),
+            (0x04, false, false, false),
+            (0x08, true, false, false),
+            (0x4E, true, false, false),
+            (0x10, true, false, false),
+            (0x1C, true, false, false),
+            (0x20, true, true, false),
+            (0x24, false, true, false),
+            (0xBE, true, true, true),
+            (0x30, true, true, true),
         ] {
+            // Protected now, earlier and later are one.
+            let list = format!("config write dev0.SMRAM 0\nconfig write dev0.SMRAM {smram}\nreset\n");
+            let records: Vec<Record> = decode(&assemble(&list).expect("a trace").records).collect();
+            let guard = Guard::of(&records);
             let mut ground = Ground::new();
-            let mut follower = Follower::new(&mut ground);
-            let setup = assemble(&format!("config write dev0.SMRAM {smram}\n")).expect("a trace");
-            decode(&setup.records).for_each(|record| follower.note(&record));
-            let ranges =
-                [(&low[..], low_is), (&alias, alias_is), (&small, small_is), (&large, large_is), (&never, false)];
+            let follower = Follower::new(&mut ground);
+            let ranges = [(&low[..], low_is), (&small, small_is), (&large, large_is), (&never, false)];
             for (addresses, expected) in ranges {
                 for &address in addresses {
-                    assert_eq!(follower.protects(address), expected, "SMRAM {smram:02X}h, {address:X}h");
+                    let hides = |management| guard.hides(&Record::write(address, 4, 7, management), &follower);
+                    assert_eq!(hides(true), expected, "SMRAM {smram:02X}h, {address:X}h");
+                    assert!(!hides(false), "what others write is shown while it goes elsewhere");
                 }
             }
+        }
+    }
+
+    /// The key may be put in place by anybody while A0000h is open.
+    #[test]
+    fn an_open_place_that_is_protected_later_is_guarded() {
+        for (last, expected) in [("4Eh", true), ("44h", false)] {
+            let list = format!("config write dev0.SMRAM 44h\nconfig write dev0.SMRAM {last}\n");
+            let records: Vec<Record> = decode(&assemble(&list).expect("a trace").records).collect();
+            let guard = Guard::of(&records);
+            let mut ground = Ground::new();
+            let mut follower = Follower::new(&mut ground);
+            records[..2].iter().for_each(|record| follower.note(record));
+            for record in [Record::write(0xA_0000, 4, 7, false), Record::master_write(0xB_FFFC, 4, 7)] {
+                assert_eq!(guard.hides(&record, &follower), expected, "{record}");
+            }
+            assert!(!guard.hides(&Record::write(0x9_FFFC, 4, 7, false), &follower));
         }
     }
 }

@@ -1,6 +1,7 @@
 //! One line of a trace: its words and its comment.
 
 use super::errors::acts_on_terminals;
+use super::listing::REDACTED;
 use super::numbers::{self, NotANumber};
 
 /// What is wrong in a line, and where.
@@ -24,6 +25,9 @@ impl<'a> Word<'a> {
     }
 
     pub fn expected(&self, what: &str) -> Fault {
+        if self.text == REDACTED {
+            return self.fault("a redacted value: list the records with --show-protected");
+        }
         let shown: String = self.text.chars().take(40).map(visible).collect();
         let found = match self.text.chars().count() {
             0 => "nothing".to_string(),

@@ -1,7 +1,7 @@
 //! Records turned into a text trace. [`assemble`](super::assemble) gives the same bytes back for every
 //! list of records, unless values of protected memory are left out.
 
-use super::follow::{Follower, Ground};
+use super::follow::{Follower, Ground, Guard};
 use super::names::{self, Bases};
 use super::{numbers, words};
 use crate::record::{self, Kind, Record};
@@ -110,8 +110,8 @@ pub struct Lister {
     pub macros: bool,
     /// Whether values are explained in comments.
     pub comments: bool,
-    /// Whether what management mode writes into protected memory is shown. Such a value is [`REDACTED`]
-    /// otherwise, and the trace does not give the same bytes back.
+    /// Whether values are shown that are written to places which SMRAM protects at some time of the list
+    /// ([`Guard`]). They are [`REDACTED`] otherwise, and the trace does not give the same bytes back.
     pub show_protected: bool,
 }
 
@@ -125,10 +125,11 @@ impl Lister {
         let records: Vec<Record> = record::decode(bytes).collect();
         let mut ground = Ground::new();
         let mut follower = Follower::new(&mut ground);
+        let guard = if self.show_protected { Guard::default() } else { Guard::of(&records) };
         let mut rest = records.as_slice();
         while let Some(record) = rest.first() {
             let bases = follower.bases();
-            let line = if !self.show_protected && is_protected(record, &follower) {
+            let line = if guard.hides(record, &follower) {
                 Line { taken: 1, text: redacted(record, bases), comment: None }
             } else {
                 let whole = || Line { taken: 1, text: statement(record, bases), comment: comment(record, bases) };
@@ -149,14 +150,6 @@ impl Lister {
             _ => writeln!(out, "{}", line.text),
         }
     }
-}
-
-/// Whether a record is a management-mode write of what SMRAM protects.
-fn is_protected(record: &Record, follower: &Follower<'_>) -> bool {
-    record.keeps_layout()
-        && record.kind() == Some(Kind::Write)
-        && record.is_management()
-        && follower.protects(record.address)
 }
 
 /// A line, and how many records it stands for.

@@ -1,7 +1,6 @@
 //! The words of a statement, and the numbers, ports, places and registers that they stand for.
 
 use super::line::{Fault, Word};
-use super::listing::REDACTED;
 use super::names::{self, Bases};
 use super::numbers;
 use std::collections::HashMap;
@@ -86,9 +85,6 @@ impl<'a, 'c> Reader<'a, 'c> {
     }
 
     fn value(&self, word: Word<'a>, what: &str) -> Result<u32, Fault> {
-        if word.text == REDACTED {
-            return Err(word.fault("a redacted value: list the records with --show-protected"));
-        }
         match self.constant(word)? {
             Some(value) => Ok(value),
             None => word.number(what),
