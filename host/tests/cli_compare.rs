@@ -89,6 +89,18 @@ fn writes_before_the_lock_carry_the_key() {
     assert!(after.contains("2 records after the lock, 1 answer differs, a value"), "{after}");
 }
 
+/// Start-up code may put the key in place while the memory is open to all.
+#[test]
+fn ordinary_writes_before_the_lock_carry_the_key_too() {
+    for write in ["write4 A0010h 0", "master write4 A0010h 0", "smm write4 A0010h 0"] {
+        let trace = format!("config write dev0.SMRAM 44h\n{write}\nconfig write dev0.SMRAM 4Eh\nsmm read4 A0010h\n");
+        let run = run_with(&["compare", "-"], trace.as_bytes());
+        assert_eq!(run.status, DONE, "{}", run.errors);
+        assert!(run.text.contains("and in 1 write\n"), "{write}: {}", run.text);
+        assert!(run.text.contains("1 answer differs, a value that management mode read"), "{write}: {}", run.text);
+    }
+}
+
 /// What the parser met before the lock can be in a register, and then the two runs are not demand 3's.
 #[test]
 fn runs_that_differ_at_the_lock_are_refused() {

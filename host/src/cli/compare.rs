@@ -169,7 +169,7 @@ impl Report<'_> {
         self.lines(out, "protected", &protected.in_words())?;
         let mut places = format!("in {} from the start", counted(protected.bytes() as u64, "protected byte"));
         if !carriers.is_empty() {
-            places += &format!(", and in {}", counted(carriers.len() as u64, "management-mode write"));
+            places += &format!(", and in {}", counted(carriers.len() as u64, "write"));
         }
         self.lines(out, "the key is", &places)
     }

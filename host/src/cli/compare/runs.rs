@@ -68,8 +68,12 @@ impl Protected {
 
 /// "A management-mode access that lands in protected memory".
 pub fn lands(protected: &Protected, record: &Record, answer: &Answer) -> bool {
-    let reached = answer.code == 0 && answer.target() == Some(Target::Memory);
-    record.is_management() && reached && protected.has(answer.address as usize)
+    record.is_management() && reaches(protected, answer)
+}
+
+fn reaches(protected: &Protected, answer: &Answer) -> bool {
+    let memory = answer.code == 0 && answer.target() == Some(Target::Memory);
+    memory && protected.has(answer.address as usize)
 }
 
 pub fn is_write(record: &Record) -> bool {
@@ -116,8 +120,12 @@ impl Scope {
         let reset = records.iter().skip(lock + 1).position(|record| *record == Record::reset());
         let end = reset.map_or(records.len(), |after| lock + 1 + after);
         let both = records.iter().zip(record::decode_answers(&answers)).take(end).enumerate();
-        let carries = |record: &Record, answer: &Answer| is_write(record) && lands(&protected, record, answer);
-        let carriers = both.filter(|(_, (record, answer))| carries(record, answer)).map(|(index, _)| index).collect();
+        let carries = |index: usize, record: &Record, answer: &Answer| {
+            let may = record.is_management() || index < lock;
+            may && record.kind().is_some_and(Kind::is_write) && reaches(&protected, answer)
+        };
+        let carriers =
+            both.filter(|(index, (record, answer))| carries(*index, record, answer)).map(|(index, _)| index).collect();
         Ok(Scope { lock, end, smram, protected, carriers, bases })
     }
 
