@@ -278,9 +278,17 @@ fn a_dump_is_whole_and_private_or_redacted_and_open() {
     let (_, mode) = dump("open", &[], "write4 1000h 7\n");
     assert_ne!(mode, 0o600, "nothing in it is a secret");
 
-    let answers = folder.join("answers");
-    run_with(&["replay", "--answers", &word(&answers), "-"], tseg.as_bytes());
-    assert_eq!(fs::metadata(&answers).expect("answers").permissions().mode() & 0o777, 0o600);
+    let before = "config write dev0.SMRAM 44h\nread4 A0000h\nconfig write dev0.SMRAM 4Eh\n";
+    let after = "config write dev0.SMRAM 4Eh\nreset\nconfig write dev0.SMRAM 44h\nread4 A0000h\n";
+    let beside = "config write dev0.SMRAM 4Eh\nread4 A0000h\nread4 9FFFCh\nsmm write4 A0000h 7\n";
+    for (name, trace, secret) in
+        [("during", tseg, true), ("before", before, true), ("after", after, true), ("beside", beside, false)]
+    {
+        let answers = folder.join(name);
+        run_with(&["replay", "--answers", &word(&answers), "-"], trace.as_bytes());
+        let mode = fs::metadata(&answers).expect("answers").permissions().mode() & 0o777;
+        assert_eq!(mode == 0o600, secret, "{name}: {mode:o}");
+    }
 }
 
 #[test]

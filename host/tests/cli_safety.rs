@@ -6,7 +6,7 @@ use cli::{finished, folder, names, run_with, word, CLOSED_PIPE, DONE, FILE, INPU
 use mitrophel::{record, Record};
 use std::ffi::{c_char, c_int, c_uint, CString, OsStr};
 use std::fs;
-use std::io::Write;
+use std::io::{Read, Write};
 use std::os::unix::ffi::OsStrExt;
 use std::os::unix::fs::{chown, symlink, MetadataExt, OpenOptionsExt, PermissionsExt};
 use std::os::unix::process::{CommandExt, ExitStatusExt};
@@ -495,4 +495,25 @@ fn an_endless_input_is_refused() {
         assert_eq!(run.status, INPUT, "{words:?}: {}", run.errors);
         assert!(run.errors.contains(part), "{words:?}: {}", run.errors);
     }
+}
+
+/// Records that hold a key, and a trace that shows it, are their owner's alone.
+#[test]
+fn a_converted_key_is_its_owners() {
+    let folder = folder("converted");
+    let mode = |name: &str| fs::metadata(folder.join(name)).expect("an output").permissions().mode() & 0o777;
+    let convert = |words: &[&str], input: &[u8]| {
+        let mut command = program(0o022, SIG_DFL);
+        command.current_dir(&folder).args(words).stdin(Stdio::piped());
+        let mut child = command.spawn().expect("the program starts");
+        child.stdin.take().expect("a pipe").write_all(input).expect("the input");
+        assert!(child.wait().expect("the program ends").success(), "{words:?}");
+    };
+    let key = b"config write dev0.SMRAM 44h\nwrite4 A0000h 4B455921h\nconfig write dev0.SMRAM 4Eh\n";
+    convert(&["asm", "-o", "key.rec", "-"], key);
+    convert(&["asm", "-o", "plain.rec", "-"], b"write4 1000h 7\n");
+    let records = fs::read(folder.join("key.rec")).expect("the records");
+    convert(&["disasm", "-o", "shown.trace", "--show-protected", "-"], &records);
+    convert(&["disasm", "-o", "hidden.trace", "-"], &records);
+    assert_eq!(["key.rec", "plain.rec", "shown.trace", "hidden.trace"].map(mode), [0o600, 0o644, 0o600, 0o644]);
 }

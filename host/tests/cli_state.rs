@@ -2,10 +2,8 @@
 
 mod cli;
 
-use cli::{example, folder, run, run_with, DONE, INPUT, USAGE};
+use cli::{example, run, run_with, DONE, INPUT, USAGE};
 use mitrophel::{record, Record};
-use std::fs;
-use std::process::Command;
 
 /// Graphics on, A0000h-BFFFFh and the TSEG for management mode; window, registers and translation on.
 const DESK: &str = "config write dev0.SMRAM 7Ch\nconfig write dev1.GMADR C0000000h\n\
@@ -120,13 +118,13 @@ fn the_table_is_shown_by_range() {
     let rows = [
         "entries 0..15         100000h-10FFFFh      main memory",
         "entries 16..17        110000h-111FFFh      main memory (type 11)",
-        "entries 18            112000h-112FFFh      refused 5: display cache (type 01)",
-        "entries 19            113000h-113FFFh      refused 5: type 10",
-        "entries 20            6FF000h-6FFFFFh      main memory",
-        "entries 21            700000h-700FFFh      refused 6: protected main memory",
-        "entries 22            7FF000h-7FFFFFh      refused 6: protected main memory",
-        "entries 23            800000h-800FFFh      refused 7: at or above TOM",
-        "entries 16383         3FFFF000h-3FFFFFFFh  refused 7: at or above TOM",
+        "entry 18              112000h-112FFFh      refused 5: display cache (type 01)",
+        "entry 19              113000h-113FFFh      refused 5: type 10",
+        "entry 20              6FF000h-6FFFFFh      main memory",
+        "entry 21              700000h-700FFFh      refused 6: protected main memory",
+        "entry 22              7FF000h-7FFFFFh      refused 6: protected main memory",
+        "entry 23              800000h-800FFFh      refused 7: at or above TOM",
+        "entry 16383           3FFFF000h-3FFFFFFFh  refused 7: at or above TOM",
     ];
     assert_eq!(section(&text, "Translation table"), rows);
 }
@@ -216,28 +214,6 @@ fn configuration_space_is_dumped_for_lspci() {
     assert_eq!(devices[1].1[0x10..0x18], [0x08, 0, 0, 0xC0, 0, 0, 0, 0xF0]);
     assert!(run(&["state", &desk]).text.ends_with(&format!("\n{}\n", alone.text.trim_end())));
     assert_eq!(dumped(&run(&["state", "--lspci", "-"]).text).len(), 1);
-}
-
-/// `lspci` reads the dump without complaint; where there is none, there is nothing to test with.
-#[test]
-fn lspci_reads_the_dump() {
-    let folder = folder("lspci");
-    let (dump, whole) = (folder.join("desk.pci"), folder.join("desk.state"));
-    let desk = example("desk.trace");
-    fs::write(&dump, run(&["state", "--lspci", &desk]).text).expect("a dump");
-    fs::write(&whole, run(&["state", &desk]).text).expect("a state");
-    for file in [dump, whole] {
-        let Ok(output) = Command::new("lspci").arg("-F").arg(&file).args(["-n", "-v"]).output() else {
-            println!("no 'lspci' here: nothing to test with");
-            return;
-        };
-        let text = String::from_utf8_lossy(&output.stdout).into_owned();
-        assert!(output.status.success(), "{}", String::from_utf8_lossy(&output.stderr));
-        assert!(text.contains("00:00.0 0600: 8086:7120 (rev 02)"), "{text}");
-        assert!(text.contains("00:01.0 0300: 8086:7121"), "{text}");
-        assert!(text.contains("Memory at c0000000 (32-bit, prefetchable)"), "{text}");
-        assert!(text.contains("Memory at f0000000 (32-bit, non-prefetchable)"), "{text}");
-    }
 }
 
 /// A list longer than a call, whose last call is as long as a call may be, on the memory of all.

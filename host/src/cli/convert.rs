@@ -2,7 +2,8 @@
 
 use super::args::Grammar;
 use super::failure::{Failure, Status};
-use super::files::{self, Sink};
+use super::files::{self, Secrecy, Sink};
+use super::follow;
 use super::listing::Lister;
 use super::load::List;
 use std::ffi::OsString;
@@ -27,7 +28,7 @@ pub fn asm(words: &[OsString]) -> Result<Status, Failure> {
     }
     options.spares("--output", &sink, [source.clone()])?;
     let list = List::read_trace(&source)?;
-    files::save(&sink, &list.records)?;
+    files::save(&sink, &list.records, Secrecy::of(follow::holds_secrets(&list.records)))?;
     Ok(Status::Done)
 }
 
@@ -45,6 +46,7 @@ pub fn disasm(words: &[OsString]) -> Result<Status, Failure> {
     };
     let mut text = Vec::new();
     lister.write(&list.records, &mut text)?;
-    files::save(&sink, &text)?;
+    let secret = lister.show_protected && follow::holds_secrets(&list.records);
+    files::save(&sink, &text, Secrecy::of(secret))?;
     Ok(Status::Done)
 }

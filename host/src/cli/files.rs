@@ -219,6 +219,15 @@ pub enum Secrecy {
 }
 
 impl Secrecy {
+    /// Whether the output holds values that are not for everybody.
+    pub fn of(secret: bool) -> Secrecy {
+        if secret {
+            Secrecy::Secret
+        } else {
+            Secrecy::Open
+        }
+    }
+
     fn permissions(self) -> Permissions {
         Permissions::from_mode(match self {
             Secrecy::Open => 0o666 & !system::mask(),
@@ -278,7 +287,7 @@ pub enum Pending<'a> {
     Standard(&'a [u8]),
     /// A device, a pipe, an open descriptor: something that no file may take the place of.
     Direct(PathBuf, &'a [u8]),
-    Written(PathBuf, Written),
+    Written(PathBuf, Box<Written>),
 }
 
 /// The whole output under another name. It is its owner's alone until it takes its place.
@@ -316,7 +325,7 @@ impl<'a> Pending<'a> {
             old => {
                 let (file, temporary) = write_beside(&target, bytes).map_err(failure)?;
                 file.sync_all().map_err(failure)?;
-                Ok(Pending::Written(target, Written { temporary, file, old: old.ok(), secrecy }))
+                Ok(Pending::Written(target, Box::new(Written { temporary, file, old: old.ok(), secrecy })))
             }
         }
     }
@@ -362,7 +371,7 @@ fn write_beside(target: &Path, bytes: &[u8]) -> io::Result<(File, Temporary)> {
     Ok((file, temporary))
 }
 
-/// Writes one output that is no secret.
-pub fn save(sink: &Sink, bytes: &[u8]) -> Result<(), Failure> {
-    Pending::new(sink, bytes, Secrecy::Open)?.commit()
+/// Writes one output.
+pub fn save(sink: &Sink, bytes: &[u8], secrecy: Secrecy) -> Result<(), Failure> {
+    Pending::new(sink, bytes, secrecy)?.commit()
 }

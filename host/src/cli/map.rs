@@ -2,7 +2,7 @@
 
 use super::args::{Grammar, Options, NOT_BOTH};
 use super::failure::{Failure, Status};
-use super::files::{self, Sink, Source};
+use super::files::{self, Secrecy, Sink, Source};
 use super::load::{List, Memory};
 use super::style::Style;
 use super::survey::{config_write, Cell, Class, Map, Mapping, Reach, COLUMNS};
@@ -58,7 +58,7 @@ pub fn run(words: &[OsString]) -> Result<Status, Failure> {
     };
     let map = Map::after(board, &memory, &list)?;
     if let Some(sink) = &sink {
-        files::save(sink, svg::draw(&map).as_bytes())?;
+        files::save(sink, svg::draw(&map).as_bytes(), Secrecy::Open)?;
     }
     if sink != Some(Sink::Standard) {
         let mut out = io::BufWriter::new(io::stdout().lock());
@@ -155,7 +155,7 @@ impl Map {
                 Reach::Protected => style.bad(&format!("refused 6: {pages}")),
             };
             let window = format!("{:07X}-{:07X}", first * 4096, last * 4096 + 4095);
-            writeln!(out, "  window {window}  entries {:<13} {goes}", mapping.entries())?;
+            writeln!(out, "  window {window}  {:<21} {goes}", mapping.entries())?;
         }
         Ok(())
     }

@@ -174,7 +174,7 @@ impl Task {
                 let not_text = |_| Failure::input(format!("{}: expected UTF-8, since it is written anew", list.name()));
                 let text = String::from_utf8(text).map_err(not_text)?;
                 let (blessed, new) = expectations.blessed(&text, *secrets, *reasons);
-                files::save(sink, blessed.as_bytes())?;
+                files::save(sink, blessed.as_bytes(), Secrecy::Open)?;
                 writeln!(out, "{}: {} written", list.name(), numbers::counted(new as u64, "new expectation"))?;
             }
             _ => {}
@@ -255,14 +255,6 @@ impl Guarded {
     }
 }
 
-fn secrecy(secret: bool) -> Secrecy {
-    if secret {
-        Secrecy::Secret
-    } else {
-        Secrecy::Open
-    }
-}
-
 /// `--answers` and `--dump`
 struct Outputs {
     answers: Option<Sink>,
@@ -322,7 +314,7 @@ impl Outputs {
         }
         let holds_secrets = !self.redact && !guarded.ranges.is_empty();
         let pending = |sink: &Option<Sink>, bytes, secret| {
-            sink.as_ref().map(|sink| Pending::new(sink, bytes, secrecy(secret))).transpose()
+            sink.as_ref().map(|sink| Pending::new(sink, bytes, Secrecy::of(secret))).transpose()
         };
         let answers = pending(&self.answers, answers, guarded.answers)?;
         let dump = pending(&self.dump, &memory, holds_secrets)?;

@@ -114,7 +114,7 @@ fn table(page: &mut Page, hub: &Hub<'_>) {
     }
     for mapping in &mappings {
         let pages = format!("{:X}h-{:X}h", mapping.page, mapping.end());
-        let left = format!("entries {:<12}  {pages:<19}", mapping.entries());
+        let left = format!("{:<20}  {pages:<19}", mapping.entries());
         let tone = if mapping.reach == Reach::Reached { Tone::Reached } else { Tone::Refused };
         page.toned(&left, &reached(mapping), tone);
     }

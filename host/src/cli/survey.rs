@@ -60,11 +60,11 @@ pub struct Mapping {
 }
 
 impl Mapping {
-    /// The entries' numbers: `3` or `0..15`.
+    /// `entry 3` or `entries 0..15`
     pub fn entries(&self) -> String {
         match self.first == self.last {
-            true => self.first.to_string(),
-            false => format!("{}..{}", self.first, self.last),
+            true => format!("entry {}", self.first),
+            false => format!("entries {}..{}", self.first, self.last),
         }
     }
 
