@@ -17,8 +17,11 @@ fn the_version_has_the_archives_sum_and_its_toolchain() {
     assert_eq!(sum.len(), 64);
     let version = run(&["--version"]);
     assert_eq!(version.status, DONE);
-    assert!(version.text.contains(&format!("\nlibdesk.a sha256 {sum}\n")), "{}", version.text);
+    assert!(version.text.contains(&format!("\n{sum}  libdesk.a\n")), "{}", version.text);
+    assert!(version.text.lines().all(|line| line.len() <= 80), "{}", version.text);
     assert!(version.text.contains("\nproved by rattle-kit-"), "{}", version.text);
+    let more = run(&["--version", "x"]);
+    assert_eq!((more.status, more.text.as_str()), (USAGE, ""), "{}", more.errors);
 }
 
 /// The commands of the overview.

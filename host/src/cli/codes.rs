@@ -136,7 +136,7 @@ const CODES: [Code; 13] = [
         refusal: Refusal::Layout,
         when: "The record's kind is not 1 to 9; a flag is set that its kind does not have; byte 3 or bytes 12-15 are \
                not zero; a read or reset has data; a run or reset has a width or an address; or an I/O address is above \
-               65,535. The list is damaged, or was not written by this program.",
+               65,535. The list is damaged, or is no list of records.",
         example: Some(("", "raw 01 04 00 00 00 00 01 00 00 00 00 00 00 00 00 00  # port 10000h\n")),
     },
 ];

@@ -103,6 +103,7 @@ impl Expectations {
         }
         let all = numbers::counted(self.entries.len() as u64, "expectation");
         match unmet {
+            0 if self.entries.len() == 1 => writeln!(out, "{}: {all}, met", list.name())?,
             0 => writeln!(out, "{}: {all}, all met", list.name())?,
             _ => writeln!(out, "{}: {all}, {} not met", list.name(), numbers::grouped(unmet))?,
         }

@@ -149,12 +149,13 @@ breaks the layout becomes a line of raw bytes.
   -o, --output FILE     where the trace goes (default: standard output)
       --no-macros       one line for each record
       --no-comments     statements only
-      --show-protected  show what management mode writes into protected memory;
-                        it is '\u{B7}\u{B7}' otherwise
+      --show-protected  show what is written to places that are protected at
+                        some time; it is '\u{B7}\u{B7}' otherwise
 
 With --show-protected 'mitrophel asm' gives the same bytes back for every list,
-and without it for every list that has no such write. Comments say what a line
-shows alone: a value as it is written, whether or not it gets there.
+and without it for every list that has no such write: of management mode, or of
+anybody while A0000h-BFFFFh is open. Comments say what a line shows alone: a
+value as it is written, whether or not it gets there.
 
 Example:
   mitrophel asm desk.trace -o desk.rec && mitrophel disasm desk.rec
@@ -267,10 +268,10 @@ is 1.
   --color WHEN      auto (default), always or never
 
 The key stands in all protected bytes from the start, over and over, and every
-management-mode write into them carries its next bytes instead of the trace's
-data. Before the lock those bytes may still be open to all: what differs there
-is shown and is no failure. A reset ends the comparison. A trace that never
-sets the lock is refused.
+write into them, before the lock anybody's and then management mode's, carries
+its next bytes instead of the trace's data. What differs before the lock is
+shown and is no failure. A reset ends the comparison. A trace that never sets
+the lock is refused.
 
 Example: is there a way from my key to the picture?
   mitrophel compare --key key.bin --key random desk.trace

@@ -68,7 +68,12 @@ fn run(words: &[OsString]) -> Result<Status, Failure> {
     let command = command.to_string_lossy();
     match command.as_ref() {
         "-h" | "--help" => return say(&help::overview()),
-        "-V" | "--version" => return say(&version()),
+        "-V" | "--version" => {
+            return match rest {
+                [] => say(&version()),
+                [word, ..] => Err(Failure::usage(format!("expected nothing after {command}, found '{}'", shown(word)))),
+            }
+        }
         "help" => return help_of(rest),
         _ => {}
     }
@@ -112,8 +117,8 @@ fn say(text: &str) -> Result<Status, Failure> {
 
 /// `sha256sum` of the archive gives the same sum.
 fn version() -> String {
-    let answers = "answers by the machine-proved archive libdesk.a, explanations by the reference";
-    let archive = concat!("libdesk.a sha256 ", env!("MITROPHEL_ARCHIVE_SHA256"));
+    let answers = "answers by the machine-proved archive below (SHA-256), reasons by the reference";
+    let archive = concat!(env!("MITROPHEL_ARCHIVE_SHA256"), "  libdesk.a");
     let toolchain = concat!("proved by ", env!("MITROPHEL_TOOLCHAIN"));
     format!("mitrophel {}\n{answers}\n{archive}\n{toolchain}\n", env!("CARGO_PKG_VERSION"))
 }
