@@ -1,11 +1,11 @@
 //! The words of a command line.
 
-use super::explain::Secrets;
 use super::failure::{shown, Failure};
 use super::files::{Sink, Source};
 use super::load::Form;
 use super::numbers;
 use super::style::Colour;
+use super::told::Secrets;
 use mitrophel::Board;
 use std::ffi::{OsStr, OsString};
 use std::os::unix::ffi::OsStrExt;

@@ -9,13 +9,13 @@ mod judge;
 mod runs;
 
 use super::args::{Grammar, Options, ONLY_ONCE};
-use super::explain::{self, Secrets};
 use super::failure::{Failure, Status};
 use super::files::Source;
 use super::load::{List, Memory};
 use super::numbers::{self, counted, grouped};
 use super::pair::Call;
 use super::style::Style;
+use super::told::{self, Secrets};
 use super::words::{beside, wrapped, WIDTH};
 use judge::{alike_at_lock, forbidden, seen, Difference, Seen, Verdict};
 use mitrophel::call::gmch_replay;
@@ -219,7 +219,7 @@ impl Report<'_> {
     /// The trace's own record, whose data may be the key's.
     fn statement(&self, index: usize) -> String {
         let hidden = self.secrets == Secrets::Hidden && self.scope.carriers.binary_search(&index).is_ok();
-        explain::asked(&self.list.record(index), self.scope.bases[index], hidden)
+        told::asked(&self.list.record(index), self.scope.bases[index], hidden)
     }
 
     /// What was compared and is equal.

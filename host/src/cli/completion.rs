@@ -2,7 +2,7 @@
 
 use super::args::{self, Grammar};
 use super::failure::{shown, Failure, Status};
-use super::{codes, help, names, only, say, COMMANDS};
+use super::{explain, help, names, only, say, COMMANDS};
 use mitrophel::Board;
 use std::ffi::OsString;
 
@@ -55,7 +55,7 @@ fn refusals() -> impl Iterator<Item = &'static str> {
 /// What a command takes besides options.
 fn operand(grammar: &Grammar) -> Offer {
     match grammar.command {
-        "explain" => Offer::Words(codes::names()),
+        "explain" => Offer::Words(explain::names()),
         "completion" => Offer::Words(SHELLS.map(|(name, _)| name).to_vec()),
         _ if grammar.files > 0 => Offer::Files,
         _ => Offer::Words(Vec::new()),

@@ -7,12 +7,12 @@
 
 use super::args::Grammar;
 use super::compare::{Field, Protected};
-use super::explain::{Secrets, Told, Tone};
 use super::failure::{Failure, Status};
 use super::names::Bases;
 use super::pair::{Call, Pair};
 use super::picture::{self, Glyphs};
 use super::style::Style;
+use super::told::{Secrets, Told, Tone};
 use super::words::{self, wrapped, WIDTH};
 use super::{numbers, trace};
 use mitrophel::call::gmch_replay;

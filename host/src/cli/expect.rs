@@ -1,12 +1,12 @@
 //! Expectations of a trace, the texts after `#>`: compared with what came (`--check`), or written anew
 //! (`--bless`).
 
-use super::explain::{Secrets, Told, Tone};
 use super::failure::{shown, Failure};
 use super::load::List;
 use super::numbers;
 use super::pair::Step;
 use super::style::Style;
+use super::told::{Secrets, Told, Tone};
 use mitrophel::trace::{Expectation, Place};
 use std::collections::BTreeMap;
 use std::io::{self, Write};

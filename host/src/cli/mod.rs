@@ -2,7 +2,6 @@
 
 mod args;
 mod audit;
-mod codes;
 mod compare;
 mod completion;
 mod convert;
@@ -26,6 +25,7 @@ mod style;
 mod survey;
 mod svg;
 mod system;
+mod told;
 mod words;
 
 use args::Grammar;
@@ -47,7 +47,7 @@ const COMMANDS: &[(Grammar, Run)] = &[
     (audit::GRAMMAR, audit::run),
     (compare::GRAMMAR, compare::run),
     (demo::GRAMMAR, demo::run),
-    (codes::GRAMMAR, codes::run),
+    (explain::GRAMMAR, explain::run),
     (completion::GRAMMAR, completion::run),
 ];
 

@@ -4,9 +4,9 @@
 //! time, so that each answer can be explained; the two must agree in every answer and in every byte of
 //! memory.
 
-use super::explain;
 use super::failure::Failure;
 use super::names::Bases;
+use super::told;
 use mitrophel::call::gmch_replay;
 use mitrophel::record::{self, RECORD_BYTES};
 use mitrophel::reference::{Gmch, Observer, Rule, Touch, TABLE_WORDS};
@@ -198,7 +198,7 @@ fn different_answers(index: usize, record: &Record, bases: Bases, both: [&Answer
     Failure::disagreement(format!(
         "{LOUD} at record {} of the call: {}\n  proved call {proved}\n  reference   {beside}{hidden}\n{ADVICE}",
         index + 1,
-        explain::asked(record, bases, protected),
+        told::asked(record, bases, protected),
     ))
 }
 

@@ -2,7 +2,6 @@
 
 use super::args::{Grammar, Options, NOT_BOTH};
 use super::expect::Expectations;
-use super::explain::{Secrets, Told};
 use super::failure::{Failure, Status};
 use super::files::{self, Pending, Secrecy, Sink, Source};
 use super::load::{List, Memory};
@@ -12,6 +11,7 @@ use super::pair::{Call, Pair, Step};
 use super::report::{Entry, Format, Report};
 use super::style::Style;
 use super::system;
+use super::told::{Secrets, Told};
 use mitrophel::call::gmch_replay;
 use mitrophel::record::{self, RECORD_BYTES};
 use mitrophel::reference::{Gmch, TABLE_WORDS};

@@ -1,8 +1,8 @@
 //! Records and their answers as `replay` prints them: text in columns, JSON or CSV.
 
-use super::explain::{Told, Tone};
 use super::pair::Step;
 use super::style::Style;
+use super::told::{Told, Tone};
 use super::{names, words};
 use mitrophel::{Kind, Target};
 use std::io::{self, Write};

@@ -9,12 +9,12 @@ mod registers;
 mod ring;
 
 use super::args::{Grammar, NOT_BOTH};
-use super::explain::Tone;
 use super::failure::{Failure, Status};
 use super::load::{List, Memory};
 use super::pair::{Hub, Pair};
 use super::style::Style;
 use super::survey::{self, Mapping, Reach};
+use super::told::Tone;
 use super::{numbers, say, words};
 use mitrophel::record::RECORD_BYTES;
 use mitrophel::Board;

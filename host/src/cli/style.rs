@@ -1,6 +1,6 @@
 //! Colour, on a terminal only.
 
-use super::explain::Tone;
+use super::told::Tone;
 use std::env;
 use std::io::{self, IsTerminal};
 

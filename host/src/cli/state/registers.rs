@@ -1,10 +1,10 @@
 //! The registers by name, with their fields in words where document 01 gives them a meaning.
 
 use super::Page;
-use crate::cli::explain::Tone;
 use crate::cli::names::{self, Register};
 use crate::cli::pair::Hub;
 use crate::cli::survey::translation_on;
+use crate::cli::told::Tone;
 use crate::cli::{numbers, words};
 use mitrophel::{Board, Refusal};
 

@@ -1,9 +1,9 @@
 //! The ring's words from head to tail, each where the parser would fetch it.
 
 use super::Page;
-use crate::cli::explain::{self, Tone};
 use crate::cli::numbers;
 use crate::cli::pair::Hub;
+use crate::cli::told::{self, Tone};
 use mitrophel::Refusal;
 
 /// Lines at most; what is left is counted.
@@ -102,7 +102,7 @@ fn line(page: &mut Page, hub: &Hub<'_>, run: &Run) {
     let (address, (tone, text)) = match run.first {
         Fetched::Word { address, word } => (format!("{address:X}h"), instruction(word)),
         Fetched::Refused { refusal, .. } => {
-            let why = explain::bad_entry(hub, refusal, hub.ring().start + run.offset);
+            let why = told::bad_entry(hub, refusal, hub.ring().start + run.offset);
             (String::new(), (Tone::Refused, format!("refused {}: {why}", refusal.code())))
         }
     };
