@@ -260,7 +260,8 @@ impl<'m, O: Observer, F: Faults> Gmch<'m, O, F> {
     /// assert_eq!(gmch.answer(&Record::read(0x1000, 4, false)).value, 7);
     /// assert_eq!(gmch.answer(&Record::default()).refusal(), Some(Refusal::Layout));
     /// ```
-    #[inline]
+    // Always: the replay's loop is what speed is measured against, and others call this too.
+    #[inline(always)]
     pub fn answer(&mut self, record: &Record) -> Answer {
         let line_before = self.line();
         // "Any other refusal changes no register, table word or memory byte; its answer holds the
