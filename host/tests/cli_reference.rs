@@ -57,6 +57,7 @@ fn bash_completes_commands_options_and_values() {
         (&["audit", "--color", "a"], &["auto", "always"]),
         (&["audit", "night.rec", "--deny", "pro"], &["protected"]),
         (&["map", "--smram", ""], &[]),
+        (&["audit", "--jobs", ""], &[]),
         (&["explain", "prot"], &["protected"]),
         (&["completion", "z"], &["zsh"]),
         (&["demo", ""], &[]),

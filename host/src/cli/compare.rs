@@ -13,7 +13,6 @@ use super::failure::{Failure, Status};
 use super::files::Source;
 use super::load::{List, Memory};
 use super::numbers::{self, counted, grouped};
-use super::pair::Call;
 use super::style::Style;
 use super::told::{self, Secrets};
 use super::words::{beside, wrapped, WIDTH};
@@ -50,11 +49,6 @@ pub const GRAMMAR: Grammar = Grammar {
 
 /// `mitrophel compare`
 pub fn run(words: &[OsString]) -> Result<Status, Failure> {
-    run_by(words, gmch_replay)
-}
-
-/// The same, by this call.
-fn run_by(words: &[OsString], call: Call) -> Result<Status, Failure> {
     let options = GRAMMAR.parse(words)?;
     let board = options.board()?;
     let style = Style::new(options.colour()?);
@@ -66,7 +60,7 @@ fn run_by(words: &[OsString], call: Call) -> Result<Status, Failure> {
     let memory = Memory::given(&options)?;
     let list = List::read(&source, form)?;
 
-    let machine = Machine { board, memory: &memory, call };
+    let machine = Machine { board, memory: &memory, call: gmch_replay };
     let scope = Scope::of(&machine, &list)?;
     let runs = [Run::of(&machine, &list, &scope, &keys[0])?, Run::of(&machine, &list, &scope, &keys[1])?];
     alike_at_lock(&list, &scope, &runs)?;
@@ -300,6 +294,7 @@ const ADVICE: &str = "Keep no secret on this model. Please report the trace with
 #[cfg(test)]
 mod tests {
     use super::super::pair::wrong::leaking;
+    use super::super::pair::Call;
     use super::*;
     use mitrophel::{record, Board};
 

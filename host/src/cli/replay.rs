@@ -4,6 +4,7 @@ use super::args::{Grammar, Options, NOT_BOTH};
 use super::expect::Expectations;
 use super::failure::{Failure, Status};
 use super::files::{self, Pending, Secrecy, Sink, Source};
+use super::follow::{Follower, Ground};
 use super::load::{List, Memory};
 use super::numbers;
 use super::only::Only;
@@ -14,8 +15,6 @@ use super::system;
 use super::told::{Secrets, Told};
 use mitrophel::call::gmch_replay;
 use mitrophel::record::{self, RECORD_BYTES};
-use mitrophel::reference::{Gmch, TABLE_WORDS};
-use mitrophel::{Board, Kind, Record};
 use std::ffi::OsString;
 use std::io::{self, IsTerminal, Write};
 use std::mem;
@@ -60,7 +59,7 @@ fn run_by(words: &[OsString], call: Call) -> Result<Status, Failure> {
     let calls = list.calls()?;
     let mut expectations = task.expectations(&list)?;
 
-    let mut guarded = Guarded::of(board, memory.length(), &list);
+    let mut guarded = Guarded::of(memory.length(), &list);
     let mut pair = Pair::by(board, [memory.fresh(), memory.fresh()], call).guarding(guarded.ranges.clone());
     let mut out = io::BufWriter::new(io::stdout().lock());
     let mut answers = Vec::new();
@@ -233,15 +232,14 @@ struct Guarded {
 }
 
 impl Guarded {
-    /// Only configuration writes and resets decide what is protected.
-    fn of(board: Board, length: usize, list: &List) -> Guarded {
-        let (mut memory, mut table) = (vec![0; length], Box::new([0; TABLE_WORDS]));
-        let mut hub = Gmch::new(board, &mut memory, &mut table).expect("a memory that a call takes");
+    /// On a memory of this length.
+    fn of(length: usize, list: &List) -> Guarded {
+        let mut ground = Ground::with_memory(length);
+        let mut follower = Follower::new(&mut ground);
         let mut ranges = Vec::new();
-        let decides = |record: &Record| matches!(record.kind(), Some(Kind::IoWrite | Kind::Reset));
-        for record in record::decode(&list.records).filter(decides) {
-            hub.answer(&record);
-            for range in hub.protected_ranges() {
+        for record in record::decode(&list.records) {
+            follower.note(&record);
+            for range in follower.hub().protected_ranges() {
                 if !ranges.contains(&range) {
                     ranges.push(range);
                 }

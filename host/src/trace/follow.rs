@@ -10,7 +10,7 @@ use crate::board::Board;
 use crate::record::{self, Kind, Record};
 use crate::reference::{Gmch, Lsmm, Table, TABLE_WORDS};
 
-/// What the followed hub stands on. No name depends on the board or on the size of its memory.
+/// What the followed hub stands on. No name depends on the board or on the length of its memory.
 pub struct Ground {
     memory: Vec<u8>,
     table: Box<Table>,
@@ -19,7 +19,12 @@ pub struct Ground {
 impl Ground {
     /// A ground for one follower.
     pub fn new() -> Ground {
-        Ground { memory: vec![0; 8 << 20], table: Box::new([0; TABLE_WORDS]) }
+        Ground::with_memory(8 << 20)
+    }
+
+    /// The same with a memory of this length, which must be one that a board can have.
+    pub fn with_memory(bytes: usize) -> Ground {
+        Ground { memory: vec![0; bytes], table: Box::new([0; TABLE_WORDS]) }
     }
 }
 
@@ -50,7 +55,7 @@ impl<'m> Follower<'m> {
     /// A follower at cold start.
     pub fn new(ground: &'m mut Ground) -> Follower<'m> {
         let hub = Gmch::new(Board::I82810, &mut ground.memory, &mut ground.table);
-        Follower { hub: hub.expect("board 0 with 8 MiB is a board") }
+        Follower { hub: hub.expect("a length that a memory can have") }
     }
 
     /// What the names stand for at the next record.
