@@ -181,6 +181,25 @@ fn nothing_depends_on_the_key() {
     expect_rows(&first, "Ring", &["03000h    100000h   1,024  noop"]);
 }
 
+/// Nor does what was protected before a reset, or will be: the parser's fetch is answered there.
+#[test]
+fn the_rings_words_in_memory_that_is_protected_at_some_time_are_left_out() {
+    let ring = "config write dev1.GMADR C0000000h\nconfig write dev1.MMADR F0000000h\nconfig write dev1.PCICMD 2\n\
+                entry 0 A0000h\nwrite PGTBL_CTL 1\nwrite LP_RING_LENGTH 1\nwrite LP_RING_TAIL 10h\n";
+    let key = "smm word A0000h 4B455921h 4B455921h 01000000h\n";
+    let before = format!("config write dev0.SMRAM 44h\n{key}{ring}");
+    let after = format!("config write dev0.SMRAM 4Ch\n{key}reset\nconfig write dev0.SMRAM 44h\n{ring}");
+    let open = state(&before);
+    expect_rows(&open, "Ring", &["00000h     A0000h       2  unknown 4B455921h: refused 12"]);
+    for list in
+        [format!("{before}reset\nconfig write dev0.SMRAM 4Eh\nreset\nconfig write dev0.SMRAM 44h\n{ring}"), after]
+    {
+        let text = state(&list);
+        assert!(!text.contains("4B455921"), "{text}");
+        expect_rows(&text, "Ring", &["00000h     A0000h       4  \u{B7}\u{B7}"]);
+    }
+}
+
 /// The bytes of each device of a dump.
 fn dumped(text: &str) -> Vec<(String, Vec<u8>)> {
     let mut devices: Vec<(String, Vec<u8>)> = Vec::new();

@@ -253,7 +253,11 @@ enum Engine {
 impl Engine {
     fn new(audit: &Audit) -> Engine {
         match audit.compare {
-            true => Engine::Compared(Pair::by(audit.board, [audit.memory.fresh(), audit.memory.fresh()], audit.call)),
+            // A list is read as it goes: what will be protected later is not known yet.
+            true => {
+                let memories = [audit.memory.fresh(), audit.memory.fresh()];
+                Engine::Compared(Pair::by(audit.board, memories, audit.call).without_values())
+            }
             false => Engine::Alone { call: audit.call, board: audit.board, memory: audit.memory.fresh() },
         }
     }

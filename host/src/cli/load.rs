@@ -3,6 +3,7 @@
 use super::args::Options;
 use super::failure::{complain, shown, Failure, Status};
 use super::files::{Input, Source};
+use super::follow::{Follower, Ground};
 use super::{numbers, pair, trace};
 use mitrophel::record::{self, MAX_RECORDS, RECORD_BYTES};
 use mitrophel::trace::{Assembled, Expectation, Place, Warning};
@@ -172,6 +173,23 @@ impl List {
             }
         }
         statements
+    }
+
+    /// The memory, of this length, that is protected at some time of the list. Its values are not for everybody: a
+    /// key is put there before, and is still there after a reset.
+    pub fn guarded(&self, length: usize) -> Vec<Range<u32>> {
+        let mut ground = Ground::with_memory(length);
+        let mut follower = Follower::new(&mut ground);
+        let mut ranges = Vec::new();
+        for record in record::decode(&self.records) {
+            follower.note(&record);
+            for range in follower.hub().protected_ranges() {
+                if !ranges.contains(&range) {
+                    ranges.push(range);
+                }
+            }
+        }
+        ranges
     }
 
     /// The bytes of each call that the list needs.

@@ -4,7 +4,6 @@ use super::args::{Grammar, Options, NOT_BOTH};
 use super::expect::Expectations;
 use super::failure::{Failure, Status};
 use super::files::{self, Pending, Secrecy, Sink, Source};
-use super::follow::{Follower, Ground};
 use super::load::{List, Memory};
 use super::numbers;
 use super::only::Only;
@@ -14,7 +13,7 @@ use super::style::Style;
 use super::system;
 use super::told::{Secrets, Told};
 use mitrophel::call::gmch_replay;
-use mitrophel::record::{self, RECORD_BYTES};
+use mitrophel::record::RECORD_BYTES;
 use std::ffi::OsString;
 use std::io::{self, IsTerminal, Write};
 use std::mem;
@@ -59,7 +58,7 @@ fn run_by(words: &[OsString], call: Call) -> Result<Status, Failure> {
     let calls = list.calls()?;
     let mut expectations = task.expectations(&list)?;
 
-    let mut guarded = Guarded::of(memory.length(), &list);
+    let mut guarded = Guarded { ranges: list.guarded(memory.length()), answers: false };
     let mut pair = Pair::by(board, [memory.fresh(), memory.fresh()], call).guarding(guarded.ranges.clone());
     let mut out = io::BufWriter::new(io::stdout().lock());
     let mut answers = Vec::new();
@@ -232,22 +231,6 @@ struct Guarded {
 }
 
 impl Guarded {
-    /// On a memory of this length.
-    fn of(length: usize, list: &List) -> Guarded {
-        let mut ground = Ground::with_memory(length);
-        let mut follower = Follower::new(&mut ground);
-        let mut ranges = Vec::new();
-        for record in record::decode(&list.records) {
-            follower.note(&record);
-            for range in follower.hub().protected_ranges() {
-                if !ranges.contains(&range) {
-                    ranges.push(range);
-                }
-            }
-        }
-        Guarded { ranges, answers: false }
-    }
-
     fn note(&mut self, step: &Step<'_, '_>) {
         self.answers |= step.secret && step.record.kind().is_some_and(|kind| !kind.is_write());
     }

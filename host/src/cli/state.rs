@@ -1,8 +1,8 @@
 //! `state`: what the records of a list leave in the hub.
 //!
 //! The values are those of the reference, which agrees with the proved call in every answer and in every
-//! byte of memory. No byte of protected memory is shown: the ring's words are read where a fetch would be
-//! answered.
+//! byte of memory. No byte of memory is shown that is protected at some time: of the ring's words those that
+//! lie there are left out.
 
 mod dump;
 mod registers;
@@ -19,6 +19,7 @@ use super::{numbers, say, words};
 use mitrophel::record::RECORD_BYTES;
 use mitrophel::Board;
 use std::ffi::OsString;
+use std::ops::Range;
 
 pub const GRAMMAR: Grammar = Grammar {
     command: "state",
@@ -37,17 +38,18 @@ pub fn run(words: &[OsString]) -> Result<Status, Failure> {
     options.one_standard_input(NOT_BOTH)?;
     let memory = Memory::given(&options)?;
     let list = List::read(&source, form)?;
-    let mut pair = Pair::new(board, [memory.fresh(), memory.fresh()]);
+    let guarded = list.guarded(memory.length());
+    let mut pair = Pair::new(board, [memory.fresh(), memory.fresh()]).guarding(guarded.clone());
     let last = survey::last_call(&mut pair, &list)?;
     let text = pair.look(last, |hub| match options.has("--lspci") {
         true => dump::devices(hub, board),
-        false => whole(hub, board, list.records.len() / RECORD_BYTES, style),
+        false => whole(hub, &guarded, board, list.records.len() / RECORD_BYTES, style),
     })?;
     say(&text)
 }
 
-/// All sections.
-fn whole(hub: &Hub<'_>, board: Board, records: usize, style: Style) -> String {
+/// All sections. Values of guarded memory are not for everybody.
+fn whole(hub: &Hub<'_>, guarded: &[Range<u32>], board: Board, records: usize, style: Style) -> String {
     let after = numbers::counted(records as u64, "record");
     let title = format!("State: board {board}, {}, after {after}", numbers::bytes(hub.tom().into()));
     let mut page = Page { style, text: format!("{}\n", style.bold(&title)) };
@@ -55,7 +57,7 @@ fn whole(hub: &Hub<'_>, board: Board, records: usize, style: Style) -> String {
     registers::configuration(&mut page, hub, board);
     registers::mapped(&mut page, hub);
     table(&mut page, hub);
-    ring::words(&mut page, hub);
+    ring::words(&mut page, hub, guarded);
     page.heading("Configuration space, as 'lspci -F' reads it");
     page.text.push_str(dump::devices(hub, board).trim_end());
     page.text.push('\n');

@@ -161,7 +161,8 @@ fn graphics_codes(pair: &mut Pair, smram: u8, pages: &[u32]) -> Result<Vec<u8>, 
 impl Map {
     /// The map in force after the list's records.
     pub fn after(board: Board, memory: &Memory, list: &List) -> Result<Map, Failure> {
-        let mut pair = Pair::new(board, [memory.fresh(), memory.fresh()]);
+        let guarded = list.guarded(memory.length());
+        let mut pair = Pair::new(board, [memory.fresh(), memory.fresh()]).guarding(guarded);
         let setup = last_call(&mut pair, list)?;
         let edges = edges_after(setup, memory.length() as u32);
         let questions = questions(&edges);

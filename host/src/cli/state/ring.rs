@@ -4,7 +4,9 @@ use super::Page;
 use crate::cli::numbers;
 use crate::cli::pair::Hub;
 use crate::cli::told::{self, Tone};
+use mitrophel::trace::REDACTED;
 use mitrophel::Refusal;
+use std::ops::Range;
 
 /// Lines at most; what is left is counted.
 const LINES: usize = 32;
@@ -15,6 +17,10 @@ enum Fetched {
     Word {
         address: u32,
         word: u32,
+    },
+    /// A word that is not for everybody.
+    Hidden {
+        address: u32,
     },
     /// The table entry tells refusals apart.
     Refused {
@@ -39,6 +45,7 @@ impl Run {
             (Fetched::Word { address, word }, Fetched::Word { address: at, word: other }) => {
                 word == other && at == address + 4 * self.words
             }
+            (Fetched::Hidden { address }, Fetched::Hidden { address: at }) => at == address + 4 * self.words,
             (first, next) => first == next,
         };
         alike && offset == self.offset + 4 * self.words
@@ -46,7 +53,7 @@ impl Run {
 }
 
 /// The ring and its words.
-pub fn words(page: &mut Page, hub: &Hub<'_>) {
+pub fn words(page: &mut Page, hub: &Hub<'_>, guarded: &[Range<u32>]) {
     let ring = hub.ring();
     let (head, tail, bytes) = (ring.head_offset(), ring.tail, ring.bytes());
     let state = if ring.enabled() { "" } else { " (not enabled: a run takes no step)" };
@@ -60,7 +67,7 @@ pub fn words(page: &mut Page, hub: &Hub<'_>) {
         page.row("offset    address   words", "instruction");
     }
     let mut shown = 0;
-    for run in runs(hub).take(LINES) {
+    for run in runs(hub, guarded).take(LINES) {
         line(page, hub, &run);
         shown += run.words;
     }
@@ -70,15 +77,16 @@ pub fn words(page: &mut Page, hub: &Hub<'_>) {
 }
 
 /// The words in runs.
-fn runs<'a>(hub: &'a Hub<'_>) -> impl Iterator<Item = Run> + 'a {
+fn runs<'a>(hub: &'a Hub<'_>, guarded: &'a [Range<u32>]) -> impl Iterator<Item = Run> + 'a {
     let ring = hub.ring();
+    let fetch = move |offset| fetch(hub, guarded, ring.start + offset);
     let mut offset = ring.head_offset();
     std::iter::from_fn(move || {
         if offset == ring.tail {
             return None;
         }
-        let mut run = Run { offset, words: 0, first: fetch(hub, ring.start + offset) };
-        while offset != ring.tail && (run.words == 0 || run.takes(offset, fetch(hub, ring.start + offset))) {
+        let mut run = Run { offset, words: 0, first: fetch(offset) };
+        while offset != ring.tail && (run.words == 0 || run.takes(offset, fetch(offset))) {
             run.words += 1;
             offset = (offset + 4) % ring.bytes();
         }
@@ -87,8 +95,9 @@ fn runs<'a>(hub: &'a Hub<'_>) -> impl Iterator<Item = Run> + 'a {
 }
 
 /// What the parser would find at a graphics offset.
-fn fetch(hub: &Hub<'_>, offset: u32) -> Fetched {
+fn fetch(hub: &Hub<'_>, guarded: &[Range<u32>], offset: u32) -> Fetched {
     match hub.fetch_address(offset) {
+        Ok(address) if guarded.iter().any(|range| range.contains(&address)) => Fetched::Hidden { address },
         Ok(address) => {
             let bytes = hub.memory().get(address as usize..).and_then(|bytes| bytes.first_chunk());
             Fetched::Word { address, word: bytes.copied().map_or(0, u32::from_le_bytes) }
@@ -101,6 +110,7 @@ fn fetch(hub: &Hub<'_>, offset: u32) -> Fetched {
 fn line(page: &mut Page, hub: &Hub<'_>, run: &Run) {
     let (address, (tone, text)) = match run.first {
         Fetched::Word { address, word } => (format!("{address:X}h"), instruction(word)),
+        Fetched::Hidden { address } => (format!("{address:X}h"), (Tone::Reached, REDACTED.to_string())),
         Fetched::Refused { refusal, .. } => {
             let why = told::bad_entry(hub, refusal, hub.ring().start + run.offset);
             (String::new(), (Tone::Refused, format!("refused {}: {why}", refusal.code())))
