@@ -166,8 +166,8 @@ Usage: mitrophel state [OPTION].. FILE
 Replay the records of FILE from a cold start and show what they leave: the
 registers by name with their fields in words, the valid entries of the
 translation table, the ring's words from head to tail, configuration space.
-Words of memory that is protected at some time are '\u{B7}\u{B7}'. FILE is a text trace or the binary
-form, told apart by its content; '-' is standard input.
+Words of memory that is protected at some time are '\u{B7}\u{B7}'. FILE is a text
+trace or the binary form, told apart by its content; '-' is standard input.
 
   --lspci           configuration space alone, as 'lspci -F' reads it
   --board NAME      82810 (default) or dc100
