@@ -1,5 +1,5 @@
--- The fences' sum and their alignment as operations on bits.
-use mathlib.Core.Path.{_≡_, refl, sym, ap, _∙_}
+-- What the masks of the fences' code keep, as quotients and remainders: the sum and the alignment of document 01.
+use mathlib.Core.Path.{_≡_, sym, ap, _∙_}
 use Prim.Native.Nat.{ℕ, _+_, _-_, _*_, _/_, _%_, _^_, _≤_, _<_}
 use native.Mathlib.Nat.{mul-comm, mul-assoc, add-mul, mul-div-right, div-add-mod', div-div-eq-div-mul, add-mul-div-right, add-mul-mod-self-right, mod-eq-of-lt}
 use native.Mathlib.Omega.{arith}
@@ -9,17 +9,17 @@ use lib.Pow.{pow-mono, pow-add, pow-pos}
 use Rattle.gmch.specs.Fence.{fenceStart, fenceSize, tile}
 use Rattle.gmch.proofs.Fence.{size-pow}
 
--- what is left of a number above the last multiple of a size
-pub above-size : (s c : ℕ) → c < 7 → bitAnd s (fenceSize c - 1) ≡ s % fenceSize c
-above-size s c h = rw (size-pow c h) (and-mask s (19 + c))
+-- the bits below a size
+pub below-size : (s c : ℕ) → c < 7 → bitAnd s (fenceSize c - 1) ≡ s % fenceSize c
+below-size s c h = rw (size-pow c h) (and-mask s (19 + c))
 
--- j bits from bit 7 on
-pub from-7 : (d j : ℕ) → bitAnd d (128 * 2 ^ j - 128) ≡ d / 128 % 2 ^ j * 128
+-- j bits, from bit 7 on
+from-7 : (d j : ℕ) → bitAnd d (128 * 2 ^ j - 128) ≡ d / 128 % 2 ^ j * 128
 from-7 d j = ap (λ (n : ℕ). bitAnd d (n - 128)) (mul-comm 128 (2 ^ j) ∙ sym (pow-add 2 j 7)) ∙ and-high d j 7
 
 module _ (q : ℕ) (some : 0 < q) where
-  -- the tile in its row and the line in its tile change places, the row of tiles and the byte in the line stay
-  pub tile-bits : (d : ℕ) → tile (128 * q) d ≡ d - d / 128 % (q * 16) * 128 + d / 128 % q * 128 * 16 + d / q / 128 % 16 * 128
+  -- column and line change places; the row of tiles and the place in the line stay
+  tile-bits : (d : ℕ) → tile (128 * q) d ≡ d - d / 128 % (q * 16) * 128 + d / 128 % q * 128 * 16 + d / q / 128 % 16 * 128
   unfolding tile
   tile-bits d =
       let y : d / (128 * q) ≡ d / 128 / q = sym (div-div-eq-div-mul d 128 q) in
@@ -30,7 +30,7 @@ module _ (q : ℕ) (some : 0 < q) where
       rw (mul-div-right q {m = 128} (omega arith), y, z, x, m) (omega (arith, r, div-add-mod' (d / 128) q))
 
   -- whole rows of tiles pass through the sum
-  pub tile-rows : (m d : ℕ) → tile (128 * q) (d + m * (2048 * q)) ≡ tile (128 * q) d + m * (2048 * q)
+  tile-rows : (m d : ℕ) → tile (128 * q) (d + m * (2048 * q)) ≡ tile (128 * q) d + m * (2048 * q)
   unfolding tile
   tile-rows m d =
       let w : m * (2048 * q) ≡ m * 16 * (128 * q) = omega arith in
