@@ -182,6 +182,7 @@ fn loads() -> Vec<Load> {
     vec![
         window_reads("window reads, no fence", &[], random),
         window_reads("window reads, one fence of 4 MiB", &[0x321], random),
+        window_reads("window reads, two fences of 2 MiB", &[0x0000_0221, 0x0020_0231], random),
         window_reads("window reads, eight fences", &fences, random),
         runs("no-ops, budget 1", no_ops, 1, WORK as u32),
         runs("no-ops, budget 8", no_ops, 8, WORK as u32),
