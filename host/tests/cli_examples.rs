@@ -38,6 +38,7 @@ samples! {
     fault_of_the_third_model_pages_near_the_top: "fault-3-pages-near-the-top",
     fault_of_the_third_model_step_count_with_a_key_of_no_ops: "fault-3-step-count-no-ops",
     fault_of_the_third_model_step_count_with_a_key_of_interrupts: "fault-3-step-count-interrupts",
+    request_2_cheaper_fences: "request-2-cheaper-fences",
     the_desk_of_the_demo: "desk",
 }
 
