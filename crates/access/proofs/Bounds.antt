@@ -17,7 +17,7 @@ use Rattle.gmch.specs.declared.Target.{Target}
 use Rattle.gmch.specs.declared.Target.the-variants.{Refused}
 use Rattle.gmch.specs.declared.Route.{Route}
 use Rattle.gmch.proofs.Choice.{choices}
-use Rattle.gmch.proofs.Routing.{Safe, refused-safe, memory-safe, register-safe, hub-safe, error-safe, vga-safe, mapped-safe, sized, target-safe, SafeRoute, to-safe, registers-safe, offset-safe, route-safe}
+use Rattle.gmch.proofs.Routing.{Safe, refused-safe, memory-safe, register-safe, hub-safe, error-safe, vga-safe, mapped-safe, entry-safe, sized, target-safe, SafeRoute, to-safe, registers-safe, offset-safe, route-safe}
 use Rattle.words.specs.Width.{Width}
 use Rattle.words.proofs.Width.{fits-width}
 use Rattle.access.specs.Decide.{Reachable, InWindow}
@@ -25,9 +25,8 @@ use Rattle.access.specs.Decide.{Reachable, InWindow}
 -- ---- what a decision asks
 
 pub ready : (b : Board) (s : State) (table main : List ℕ) (m : Map) → m ≡ mapOf b s → Tom (b .tom) → length table ≡ 16384 → length main ≡ b .tom
-    → (m ≡ mapOf b s) × Sized m table × (length main ≡ m .tom)
-unfolding mapFrom
-ready b s table main m e z l k = (e, rw e (sized b s table z l), rw e k)
+    → (m ≡ mapOf b s) × Sized m table main
+ready b s table main m e z l k = (e, rw e (sized b s table main z l k))
 
 -- ---- the window
 
@@ -37,9 +36,9 @@ in-window h registers-safe = tt
 in-window h (offset-safe o l k) = omega arith
 
 -- the route of an access that code 2 lets pass
-pub route-ready : (table : List ℕ) (m : Map) (a : Access) (r : Route) → Sized m table → fitsWord (a .width) (a .address) ≡ true
-    → r ≡ routeOf m a → Sized m table × InWindow r
-route-ready table m a r z f k =
+pub route-ready : (table main : List ℕ) (m : Map) (a : Access) (r : Route) → Sized m table main → fitsWord (a .width) (a .address) ≡ true
+    → r ≡ routeOf m a → Sized m table main × InWindow r
+route-ready table main m a r z f k =
     let h = fits-width (a .width) (a .address) f .1 in
     rw k (z, in-window (z .1) (route-safe m (z .0) a h (z .2)))
 
@@ -53,6 +52,7 @@ reachable z d hub-safe = tt
 reachable z d error-safe = tt
 reachable z d vga-safe = tt
 reachable z d mapped-safe = tt
+reachable z d (entry-safe p l h n) = omega arith
 
 module _ (m : Map) (cf8 : ℕ) (fences : List ℕ) (control : ℕ) (look : ℕ → Look) (kind : ℕ) (a : Access) where
   abbrev t : Target

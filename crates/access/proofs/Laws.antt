@@ -12,12 +12,12 @@ use Rattle.gmch.specs.Words.{within, loadLe, storeLe}
 use Rattle.gmch.specs.Records.{reply}
 use Rattle.gmch.specs.Config.{Placed, registerWritten}
 use Rattle.gmch.specs.Machine.{Machine, machine}
-use Rattle.gmch.specs.Mapped.{isEntry, isFence, mappedValue, regsWritten, mappedWritten, tableWritten}
+use Rattle.gmch.specs.Mapped.{isEntry, isFence, mappedValue, regsWritten, mappedWritten, stored, tableWritten}
 use Rattle.gmch.specs.Access.{Out, act}
 use Rattle.gmch.specs.declared.State.{State}
 use Rattle.gmch.specs.declared.Access.{Access}
 use Rattle.gmch.specs.declared.Answer.{Answer}
-use Rattle.gmch.specs.declared.Target.the-variants.{Memory, Register, Mapped}
+use Rattle.gmch.specs.declared.Target.the-variants.{Memory, Register, Mapped, Entry}
 use Rattle.gmch.proofs.Choice.{choices, pick-elim}
 use Rattle.gmch.proofs.Words.{within-from}
 use Rattle.access.specs.Decide.{Sound, changed, applied, storeEffect, registerEffect}
@@ -56,6 +56,15 @@ module _ (s : State) (table main : List ℕ) (a : Access) (v : ℕ) where
   memory-done p y main′ e f = by (a .write) refl
     where
       by : (w : Bool) → a .write ≡ w → out s table main′ (reply (Memory p) y) ≡ act x a v (Memory p)
+      by true h = rw (e, f, h) (simp choices)
+      by false h = rw (e, f, h) (simp choices)
+
+  pub entry-done : (o p y : ℕ) (main′ : List ℕ) → y ≡ pick (a .write) 0 (loadLe 4 p main) → main′ ≡ pick (a .write) (storeLe 4 p (stored v) main) main
+      → out s table main′ (reply (Entry o p) y) ≡ act x a v (Entry o p)
+  unfolding act
+  entry-done o p y main′ e f = by (a .write) refl
+    where
+      by : (w : Bool) → a .write ≡ w → out s table main′ (reply (Entry o p) y) ≡ act x a v (Entry o p)
       by true h = rw (e, f, h) (simp choices)
       by false h = rw (e, f, h) (simp choices)
 

@@ -17,7 +17,7 @@ use Rattle.gmch.specs.Ring.{withHead}
 use Rattle.gmch.specs.declared.State.{State}
 use Rattle.gmch.specs.declared.Regs.{Regs}
 use Rattle.gmch.specs.declared.Target.{Target}
-use Rattle.gmch.specs.declared.Target.the-variants.{Refused, Memory, Register, Hub, HubError, Vga, Mapped}
+use Rattle.gmch.specs.declared.Target.the-variants.{Refused, Memory, Register, Hub, HubError, Vga, Mapped, Entry}
 use Rattle.gmch.specs.declared.Route.{Route}
 use Rattle.gmch.specs.declared.Route.the-variants.{To, Registers, Window}
 use Rattle.access.specs.declared.Effect.{Effect}
@@ -39,7 +39,7 @@ applied s (Select v) = withCf8 s v
 applied s (Configure n width v) = configWrite s n width v
 applied s (Rarely e) = changed s e
 
--- what a memory-mapped register asks of the state; entries of the table are stored where they are decided
+-- what a memory-mapped register asks of the state; entries of the private table are stored where they are decided
 unfoldable pub storeEffect : Bool → ℕ → ℕ → Effect
 storeEffect write o v = pick write (pick (isEntry o) Keep (Rarely (Store o v))) Keep
 
@@ -63,7 +63,7 @@ InWindow (To t) = Unit {0}
 InWindow (Registers o) = Unit {0}
 InWindow (Window o) = o < 0x4000000
 
--- those of an access of this width
+-- those of an access of this width, which is 4 for an entry of the table
 abbrev pub Reachable : ℕ → ℕ → Target → Type 0
 Reachable tom width (Refused c) = Unit {0}
 Reachable tom width (Memory p) = Width width × (p + width ≤ tom)
@@ -72,6 +72,7 @@ Reachable tom width (Hub p) = Unit {0}
 Reachable tom width (HubError p) = Unit {0}
 Reachable tom width (Vga o) = Unit {0}
 Reachable tom width (Mapped o) = Unit {0}
+Reachable tom width (Entry o p) = p + 4 ≤ tom
 
 -- those of a configuration write
 abbrev pub Sound : Effect → Type 0

@@ -9,16 +9,17 @@ use gmch::Regs;
 use gmch::Route;
 use gmch::Target;
 ghost use mathlib.Core.Path.{_≡_};
+ghost use mathlib.Core.Bool.{true};
 ghost use Prim.Native.Nat.{_+_, _≤_};
 ghost use lib.ListN.{length};
 ghost use Rattle.gmch.specs.Choice.{pick};
 ghost use Rattle.gmch.specs.Words.{loadLe, storeLe};
 ghost use Rattle.gmch.specs.Records.{reply};
-ghost use Rattle.gmch.specs.Machine.{machine};
-ghost use Rattle.gmch.specs.Map.{Sized, mapIn};
-ghost use Rattle.gmch.specs.Table.{lookIn};
-ghost use Rattle.gmch.specs.Mapped.{mappedValue, tableWritten};
-ghost use Rattle.gmch.specs.Access.{resolved, targetIn, act};
+ghost use Rattle.gmch.specs.Machine.{lent, machine};
+ghost use Rattle.gmch.specs.Map.{Tom, Sized, mapIn};
+ghost use Rattle.gmch.specs.Table.{wordReach, lookIn};
+ghost use Rattle.gmch.specs.Mapped.{isEntry, entryNumber, mappedValue, tableWritten};
+ghost use Rattle.gmch.specs.Access.{entryTarget, resolved, targetIn, act};
 ghost use Rattle.access.specs.Decide.{Reachable, InWindow, storeEffect, registerEffect, stateOf, Decides};
 ghost use Rattle.words.specs.Width.{Width};
 
@@ -67,17 +68,31 @@ pub fn map_of<'a>(b: Board, dev0: &'a [u8; 256], dev1: &'a [u8; 256]) -> Map
 
 // ---- where it ends
 
+// The entry at the register offset `o`, of a table in main memory. The caller shows that it is one, the host's call the length
+// of memory.
+fn entry_target(m: Map, control: u32, o: u32) -> Target
+    requires { ⌜ Tom (m .tom) × (isEntry o ≡ true) ⌝ }
+    ensures { λ r. ⌜ r ≡ entryTarget o (wordReach m control (entryNumber o)) ⌝ }
+{
+    let i = mapped::entry_number(o);
+    match graphics::word_reach(m, control, i as u32) {
+        Reach::At(p) => Target::Entry(o, p),
+        Reach::Denied(c) => Target::Refused(c),
+    }
+}
+
 // What the rules leave open: the list of registers, or fences and table. `target_of` shows that an offset is in the window.
 fn resolve(
     m: Map,
     fences: &[u32; 8],
     control: u32,
     table: &[u32],
+    memory: &[u8],
     a: Access,
     route: Route,
 ) -> Target
-    requires { ⌜ Sized m (now table) × InWindow route ⌝ }
-    ensures { λ r. ⌜ r ≡ resolved m (now (fences .entry)) control (lookIn (now (table .entry))) a route ⌝ }
+    requires { ⌜ Sized m (now table) (now memory) × InWindow route ⌝ }
+    ensures { λ r. ⌜ r ≡ resolved m (now (fences .entry)) control (lookIn m control (now (table .entry)) (lent (now (memory .entry)))) a route ⌝ }
 {
     match route {
         Route::To(t) => t,
@@ -85,11 +100,14 @@ fn resolve(
             if mapped::misfit(o, a.width) {
                 return Target::Refused(10);
             }
+            if (2 <= m.kind) & mapped::is_entry(o) {
+                return entry_target(m, control, o);
+            }
             Target::Mapped(o)
         }
         Route::Window(o) => {
             let all = *fences;
-            match graphics::window(m, all, control, table, o) {
+            match graphics::window(m, all, control, table, memory, o) {
                 Reach::At(p) => Target::Memory(p),
                 Reach::Denied(c) => Target::Refused(c),
             }
@@ -104,11 +122,12 @@ pub fn target_of(
     fences: &[u32; 8],
     control: u32,
     table: &[u32],
+    memory: &[u8],
     kind: u32,
     a: Access,
 ) -> Target
-    requires { ⌜ Sized m (now table) ⌝ }
-    ensures { λ t. ⌜ t ≡ targetIn m cf8 (now (fences .entry)) control (lookIn (now (table .entry))) kind a ⌝ }
+    requires { ⌜ Sized m (now table) (now memory) ⌝ }
+    ensures { λ t. ⌜ t ≡ targetIn m cf8 (now (fences .entry)) control (lookIn m control (now (table .entry)) (lent (now (memory .entry)))) kind a ⌝ }
 {
     if !records::fits_word(a.width, a.address) {
         return Target::Refused(2);
@@ -118,7 +137,7 @@ pub fn target_of(
     }
     if kind <= 5 {
         let route = map::route(m, a);
-        return resolve(m, fences, control, table, a, route);
+        return resolve(m, fences, control, table, memory, a, route);
     }
     map::master_target(m, a)
 }
@@ -147,7 +166,7 @@ fn in_memory(memory: &mut [u8], write: bool, width: u32, v: u32, p: u32) -> u32
     words::load(memory, p as usize, width)
 }
 
-// At a memory-mapped register: the value read. Entries of the table are stored here, all else is left to the state.
+// At a memory-mapped register: the value read. Entries of the private table are stored here, all else is left to the state.
 fn at_mapped(fences: [u32; 8], regs: Regs, table: &mut [u32], write: bool, v: u32, o: u32) -> u32
     requires { ⌜ length (now table) ≡ 16384 ⌝ }
     ensures { λ r. ⌜ (r ≡ pick write 0 (mappedValue fences regs (now (table .entry)) o)) × (now (table .exit) ≡ pick write (tableWritten (now (table .entry)) o v) (now (table .entry))) ⌝ }
@@ -223,5 +242,9 @@ pub fn act<'a>(
         Target::Refused(_) => done(t, 0, Effect::Keep),
         Target::Hub(_) => done(t, 0, Effect::Keep),
         Target::Vga(_) => done(t, 0, Effect::Keep),
+        Target::Entry(_, p) => {
+            let x = in_memory(memory, write, 4, mapped::stored(v), p);
+            done(t, x, Effect::Keep)
+        }
     }
 }

@@ -3,14 +3,14 @@ use Prim.Native.Nat.{ℕ}
 use mathlib.Core.List.{List}
 use mathlib.Core.Bool.{not}
 use lib.Dec.{leb}
-use Rattle.gmch.specs.Choice.{pick}
+use Rattle.gmch.specs.Choice.{pick, _and_}
 use Rattle.gmch.specs.Words.{loadLe, storeLe}
 use Rattle.gmch.specs.Records.{accessOf, fitsWord, reply}
 use Rattle.gmch.specs.Config.{withError, portTarget, registerValue, registerWritten}
 use Rattle.gmch.specs.Machine.{Machine, withState, withTable, withMain}
 use Rattle.gmch.specs.Map.{mapOf, routeOf, masterTarget}
-use Rattle.gmch.specs.Table.{windowReach, lookOf}
-use Rattle.gmch.specs.Mapped.{misfit, mappedValue, mappedWritten, tableWritten}
+use Rattle.gmch.specs.Table.{windowReach, inMemory, wordReach, lookOf}
+use Rattle.gmch.specs.Mapped.{misfit, isEntry, entryNumber, mappedValue, mappedWritten, stored, tableWritten}
 use Rattle.gmch.specs.declared.Board.{Board}
 use Rattle.gmch.specs.declared.Map.{Map}
 use Rattle.gmch.specs.declared.Record.{Record}
@@ -20,7 +20,7 @@ use Rattle.gmch.specs.declared.Look.{Look}
 use Rattle.gmch.specs.declared.Reach.{Reach}
 use Rattle.gmch.specs.declared.Reach.the-variants.{At, Denied}
 use Rattle.gmch.specs.declared.Target.{Target}
-use Rattle.gmch.specs.declared.Target.the-variants.{Refused, Memory, Register, Hub, HubError, Vga, Mapped}
+use Rattle.gmch.specs.declared.Target.the-variants.{Refused, Memory, Register, Hub, HubError, Vga, Mapped, Entry}
 use Rattle.gmch.specs.declared.Route.{Route}
 use Rattle.gmch.specs.declared.Route.the-variants.{To, Registers, Window}
 
@@ -30,10 +30,18 @@ abbrev pub reached : Reach → Target
 reached (At p) = Memory p
 reached (Denied c) = Refused c
 
--- after routing: 10; or 9, 3, 4, 5, 7, 6
+-- an entry of a table in main memory: codes 7, 6
+abbrev pub entryTarget : ℕ → Reach → Target
+entryTarget o (At p) = Entry o p
+entryTarget o (Denied c) = Refused c
+
+-- after routing: 10, then a table word's 7, 6; or 9, 3, 4, 5, 7, 6, with a table word's 7, 6 after 3
 unfoldable pub resolved : Map → List ℕ → ℕ → (ℕ → Look) → Access → Route → Target
 resolved m fences control look a (To t) = t
-resolved m fences control look a (Registers o) = pick (misfit o (a .width)) (Refused 10) (Mapped o)
+resolved m fences control look a (Registers o) =
+    pick (misfit o (a .width)) (Refused 10)
+    (pick (inMemory m and isEntry o) (entryTarget o (wordReach m control (entryNumber o)))
+    (Mapped o))
 resolved m fences control look a (Window o) = reached (windowReach m fences control look o)
 
 -- an access of kinds 1 to 7: 2; ports; the processor; hub masters
@@ -48,7 +56,7 @@ targetIn m cf8 fences control look kind a =
 unfoldable pub targetOf : Board → Machine → Record → Target
 targetOf b x r =
     let s = x .state in
-    targetIn (mapOf b s) (s .cf8) (s .fences) (s .regs .control) (lookOf x) (r .kind) (accessOf r)
+    targetIn (mapOf b s) (s .cf8) (s .fences) (s .regs .control) (lookOf b x) (r .kind) (accessOf r)
 
 -- ---- what it does there
 
@@ -79,6 +87,11 @@ act x a v (Mapped o) =
     pick (a .write)
     (done (withTable (withState x (mappedWritten (x .state) o v)) (tableWritten (x .table) o v)) (Mapped o) 0)
     (done x (Mapped o) (mappedValue (x .state .fences) (x .state .regs) (x .table) o))
+-- a write masks as in the private table, a read does not
+act x a v (Entry o p) =
+    pick (a .write)
+    (done (withMain x (storeLe 4 p (stored v) (x .memories .main))) (Entry o p) 0)
+    (done x (Entry o p) (loadLe 4 p (x .memories .main)))
 
 -- ---- the target's place in memory
 
@@ -94,3 +107,4 @@ locationOf (Hub p) = Nowhere
 locationOf (HubError p) = Nowhere
 locationOf (Vga o) = Nowhere
 locationOf (Mapped o) = Nowhere
+locationOf (Entry o p) = Main p

@@ -12,7 +12,7 @@ use Rattle.gmch.specs.declared.Board.{Board}
 -- board kind, memory length, record length and answer length; where one is wrong, code 1
 unfoldable pub goodCall : Board → ℕ → ℕ → Bool
 goodCall b records answers =
-    leb (b .kind) 1
+    leb (b .kind) 3
     and (leb 0x800000 (b .tom) and leb (b .tom) 0x20000000 and eqb (b .tom % 0x800000) 0)
     and (eqb (records % 16) 0 and leb (records / 16) 65535)
     and eqb answers records

@@ -6,7 +6,7 @@ ghost use mathlib.Core.Path.{_≡_};
 ghost use mathlib.Core.Bool.{true};
 ghost use Prim.Native.Nat.{_<_};
 ghost use lib.ListN.{length};
-ghost use Rattle.gmch.specs.Mapped.{listedWord, listedHalf, misfit, isEntry, entryNumber, isFence, fenceNumber, regsValue, mappedValue, regsWritten, mappedWritten, tableWritten, lineOf};
+ghost use Rattle.gmch.specs.Mapped.{listedWord, listedHalf, misfit, isEntry, entryNumber, isFence, fenceNumber, regsValue, mappedValue, regsWritten, mappedWritten, stored, tableWritten, lineOf};
 
 // ---- the list
 
@@ -18,7 +18,7 @@ pub fn is_entry(o: u32) -> bool
 }
 
 // The number of the entry that has `o`. The caller shows that one has.
-fn entry_number(o: u32) -> usize
+pub fn entry_number(o: u32) -> usize
     requires { ⌜ isEntry o ≡ true ⌝ }
     ensures { λ r. ⌜ (r ≡ entryNumber o) × (r < 16384) ⌝ }
 {
@@ -162,13 +162,20 @@ pub fn written(s: State, o: u32, v: u32) -> State
     t
 }
 
-// The translation table after `v` is written at `o`. The host's call shows the table's length.
+// What a write of `v` stores in an entry of the translation table, in either home.
+pub fn stored(v: u32) -> u32
+    ensures { λ r. ⌜ r ≡ stored v ⌝ }
+{
+    v & 0x3FFFF007
+}
+
+// The private translation table after `v` is written at `o`. The host's call shows the table's length.
 pub fn table_written(table: &mut [u32], o: u32, v: u32)
     requires { ⌜ length (now table) ≡ 16384 ⌝ }
     ensures { λ _. ⌜ now (table .exit) ≡ tableWritten (now (table .entry)) o v ⌝ }
 {
     if is_entry(o) {
-        table[entry_number(o)] = v & 0x3FFFF007;
+        table[entry_number(o)] = stored(v);
     }
 }
 

@@ -121,6 +121,7 @@ pub fn reply(t: Target, v: u32) -> Answer
         Target::HubError(p) => answer(0, 3, p, v),
         Target::Vga(o) => answer(0, 4, o, v),
         Target::Mapped(o) => answer(0, 5, o, v),
+        Target::Entry(o, _) => answer(0, 5, o, v),
     }
 }
 

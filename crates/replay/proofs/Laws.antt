@@ -9,7 +9,7 @@ use Rattle.gmch.specs.Records.{accessOf, wellFormed, resetReply}
 use Rattle.gmch.specs.Config.{withRegs}
 use Rattle.gmch.specs.Machine.{Machine, machine, lent}
 use Rattle.gmch.specs.Map.{mapOf}
-use Rattle.gmch.specs.Table.{fetch, lookIn}
+use Rattle.gmch.specs.Table.{fetchIn}
 use Rattle.gmch.specs.Ring.{withHead, run}
 use Rattle.gmch.specs.Access.{targetOf, done, act}
 use Rattle.gmch.specs.Replay.{fetchFrom, runReply, parserRun, coldStart, coldTable, coldMachine, reset, oneRecord}
@@ -45,7 +45,7 @@ module _ (b : Board) (x : Machine) (r : Record) where
 
 -- a run, which changes head and identity alone, and leaves memory as it is
 pub run-done : (b : Board) (s : State) (table main : List ℕ) (budget : ℕ) (q : Ran)
-    → q ≡ run (fetch (mapOf b s) (s .regs .control) (lookIn table)) budget 0 (s .regs) (lent main) .ran
+    → q ≡ run (fetchIn (mapOf b s) (s .regs .control) table) budget 0 (s .regs) (lent main) .ran
     → out (withRegs s (withHead (s .regs) (q .regs .head) (q .regs .identity))) table main (runReply q) ≡ parserRun b (machine s table main) budget
 unfolding parserRun
 run-done b s table main budget q f =

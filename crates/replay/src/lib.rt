@@ -85,7 +85,7 @@ pub fn decide<'a>(
     memory: &mut [u8],
     r: Record,
 ) -> Decided
-    requires { ⌜ (m ≡ mapIn b (now dev0) (now dev1)) × Sized m (now table) × (length (now memory) ≡ m .tom) ⌝ }
+    requires { ⌜ (m ≡ mapIn b (now dev0) (now dev1)) × Sized m (now table) (now memory) ⌝ }
     ensures { λ d. ⌜ Decides (stateOf cf8 (now (dev0 .entry)) (now (dev1 .entry)) (now (fences .entry)) regs) (now (table .exit)) (now (memory .exit)) d (λ s. oneRecord b (machine s (now (table .entry)) (now (memory .entry))) r) ⌝ }
 {
     if !records::well_formed(r) {
@@ -106,7 +106,7 @@ pub fn decide<'a>(
         };
     }
     let a = records::access_of(r);
-    let t = access::target_of(m, cf8, fences, regs.control, table, r.kind, a);
+    let t = access::target_of(m, cf8, fences, regs.control, table, memory, r.kind, a);
     access::act(cf8, dev0, dev1, fences, regs, table, memory, a, r.value, t)
 }
 

@@ -223,12 +223,12 @@ fn default_bytes(device: u32) -> [u8; 256]
     a
 }
 
-// The low byte of the device identification: 7120h and 7121h on board kind 0, 7122h and 7123h on a DC100.
+// The low byte of the device identification: 7120h and 7121h on an 82810, kinds 0 and 2; 7122h and 7123h on a DC100.
 fn id_byte(board: u32, device: u32) -> u8
     requires { ⌜ device < 2 ⌝ }
     ensures { λ r. ⌜ r ≡ idByte board device ⌝ }
 {
-    if board == 0 {
+    if board % 2 == 0 {
         return (0x20 + device) as u8;
     }
     (0x20 + device + 2) as u8

@@ -57,6 +57,7 @@ fn entry(v: u32) {
     text(b"entry ");
     hex(v);
     let m = Map {
+        kind: 0,
         tom: 0x800000,
         smram: 0xBE,
         window: 0x4000000,

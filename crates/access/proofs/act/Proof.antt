@@ -3,7 +3,7 @@ use mathlib.Core.Path.{refl}
 use Rattle.gmch.specs.Choice.{pick}
 use Rattle.gmch.specs.Access.{act}
 use Rattle.access.specs.Decide.{changed, applied}
-use Rattle.access.proofs.Laws.{memory-done, mapped-done, register-done, register-sound, effect-sound}
+use Rattle.access.proofs.Laws.{memory-done, entry-done, mapped-done, register-done, register-sound, effect-sound}
 use Rattle.access.proofs.act.Statement.{statement}
 use Rattle.access.proofs.act.Tie as tie
 
@@ -31,6 +31,16 @@ returns-4 c =
     rw (c .done4 .ensures, c .before .before .before .before .t3 .given .1, c .before .before .if1 .left, c .before .register-value .ensures)
     (λ p q. refl, tt)
 
+in-memory-requires-2 : tie.Need-in-memory-requires-2
+in-memory-requires-2 c κs = (search needs, rw (c .before .before .before .t4 .given .1) at (c .before .before .before .before .before .before .before .pre .1))
+
+returns-9 : tie.Need-returns-9
+unfolding applied
+returns-9 c =
+    let m = c .before .before .before .in-memory2 .ensures in
+    rw (c .done9 .ensures, c .before .before .before .before .before .before .before .t4 .given .1)
+    (λ p q. entry-done _ _ _ _ _ _ _ _ _ (m .0) (rw (c .before .before .before .before .stored .ensures) at (m .1)), tt)
+
 pub act-spec : {M : Type 1} → statement M
 act-spec =
     tie.close
@@ -57,6 +67,10 @@ act-spec =
     (λ c. search needs)
     (λ c κs. search needs)
     (λ c. search needs)
+    (λ c κs. search needs)
+    in-memory-requires-2
+    (λ c κs. search needs)
+    (λ c. search needs)
     returns-2
     (λ c. search needs)
     returns-3
@@ -64,4 +78,6 @@ act-spec =
     (λ c. unfold act applied changed in rw (c .done5 .ensures, c .before .enum-told .given .1) (λ p q. refl, tt))
     (λ c. unfold act applied in rw (c .done6 .ensures, c .before .enum-told2 .given .1) (λ p q. refl, tt))
     (λ c. unfold act applied in rw (c .done7 .ensures, c .before .enum-told3 .given .1) (λ p q. refl, tt))
-    (λ c. unfold act applied in rw (c .done8 .ensures, c .before .enum-told4 .given .1) (λ p q. refl, tt)))
+    (λ c. unfold act applied in rw (c .done8 .ensures, c .before .enum-told4 .given .1) (λ p q. refl, tt))
+    (λ c. search needs)
+    returns-9)

@@ -1,8 +1,29 @@
 use borrow.Author.Needs.{needs}
-use Rattle.gmch.specs.Choice.{pick}
+use lib.Dec.{leb}
+use Rattle.gmch.specs.Choice.{pick, _and_}
 use Rattle.gmch.specs.Access.{resolved}
+use Rattle.gmch.proofs.Choice.{flag, and-right}
 use Rattle.access.proofs.resolve.Statement.{statement}
 use Rattle.access.proofs.resolve.Tie as tie
+
+entry-target-requires : tie.Need-entry-target-requires
+unfolding _and_
+entry-target-requires c κs =
+    let s = c .before .before .before .before .before .before .before .before .before .before in
+    (s .pre .0 .0, flag (c .before .is-entry .ensures) (and-right (leb 2 (s .args .m .kind)) (c .before .is-entry .result) (c .if2 .taken)))
+
+returns-2 : tie.Need-returns-2
+unfolding resolved pick _and_
+returns-2 c =
+    let t = c .before .before .before .before in
+    rw (t .before .before .before .route2 .given .1, ← t .before .misfit .ensures, t .if1 .left, ← c .before .before .is-entry .ensures, c .before .if2 .taken)
+    (c .entry-target .ensures)
+
+returns-4 : tie.Need-returns-4
+unfolding resolved pick _and_
+returns-4 c =
+    let t = c .before .before .before in
+    rw (t .before .before .before .route2 .given .1, ← t .before .misfit .ensures, t .if1 .left, ← c .before .is-entry .ensures, c .if2 .left)
 
 pub resolve-spec : {M : Type 1} → statement M
 resolve-spec =
@@ -12,11 +33,14 @@ resolve-spec =
     (λ c. search needs)
     (λ c κs. search needs)
     (λ c. unfold resolved pick in rw (c .before .before .before .route2 .given .1, ← c .before .misfit .ensures, c .if1 .taken))
+    (λ c κs. search needs)
+    entry-target-requires
+    returns-2
     (λ c. search needs)
-    (λ c κs. (c .before .before .before .before .before .pre .0, rw (c .before .before .route3 .given .1) at (c .before .before .before .before .before .pre .1)))
+    (λ c κs. let s = c .before .before .before .before .before .before in (s .pre .0, rw (c .before .before .route3 .given .1) at (s .pre .1)))
     (λ c. search needs)
     (λ c. search needs)
     (λ c. unfold resolved in rw (c .before .route .given .1))
-    (λ c. unfold resolved pick in rw (c .before .before .before .route2 .given .1, ← c .before .misfit .ensures, c .if1 .left))
+    returns-4
     (λ c. unfold resolved in rw (c .before .before .before .before .before .before .route3 .given .1, ← c .before .before .before .window .ensures, c .before .p .given .1))
     (λ c. unfold resolved in rw (c .before .before .before .before .before .before .route3 .given .1, ← c .before .before .before .window .ensures, c .before .c .given .1)))

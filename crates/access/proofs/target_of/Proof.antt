@@ -22,7 +22,8 @@ resolve-requires : tie.Need-resolve-requires
 resolve-requires c κs =
     let w = c .before .before .before .before in
     let f = not-false _ (flag (ap not (w .fits-word .ensures)) (c .before .before .before .if1 .left)) in
-    route-ready (w .before .before .args .table .now) _ _ _ (w .before .before .pre) f (c .route .ensures)
+    let s = w .before .before .before in
+    route-ready (s .args .table .now) (s .args .memory .now) _ _ _ (s .pre) f (c .route .ensures)
 
 returns-3 : tie.Need-returns-3
 unfolding targetIn
@@ -48,8 +49,8 @@ target-of-spec =
     returns
     (λ c κs. search needs)
     returns-2
-    (λ c κs. c .before .before .before .before .before .pre .0)
+    (λ c κs. c .before .before .before .before .before .before .pre .0)
     resolve-requires
     returns-3
-    (λ c κs. c .before .before .before .before .before .pre .0)
+    (λ c κs. c .before .before .before .before .before .before .pre .0)
     returns-4)

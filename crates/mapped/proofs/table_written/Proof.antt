@@ -10,9 +10,10 @@ table-written-spec =
     tie.close
     (tie.spec
     (λ c κs. search needs)
+    (λ c κs. search needs)
     (λ c κs. search flag)
     (λ c. search needs)
     (λ c. search needs)
     (λ c. search needs)
-    (λ c. unfold tableWritten in rw (c .entry-number .ensures .0) (search called))
+    (λ c. unfold tableWritten in rw (c .entry-number .ensures .0, c .before .stored .ensures) (search called))
     (λ c. unfold tableWritten in search called))

@@ -34,17 +34,17 @@ returns-3 c =
 
 act-requires : tie.Need-act-requires
 act-requires c κs =
-    let z = c .before .before .before .before .before .before .before .before .before .before .before .before .before .pre in
-    (z .1 .3, rw (z .2, c .before .before .target-of .ensures) (target-reachable _ _ _ _ _ _ _ (z .1 .0) (z .1 .2)))
+    let z = c .before .before .before .before .before .before .before .before .before .before .before .before .before .before .pre in
+    (z .1 .3, rw (z .1 .4, c .before .before .target-of .ensures) (target-reachable _ _ _ _ _ _ _ (z .1 .0) (z .1 .2)))
 
 returns-4 : tie.Need-returns-4
 unfolding targetOf
 returns-4 c =
-    let w = c .before .before .before .before .before .before .before .before .before .before .before .before .before .before in
+    let w = c .before .before .before .before .before .before .before .before .before .before .before .before .before .before .before in
     let e = flag (ap not (w .before .well-formed .ensures)) (w .if1 .left) in
     let a = c .before .before .before .before .act .ensures in
     let t = c .before .before .before .before .before .before .before in
-    (λ p q. a .0 p q ∙ rw (t .target-of .ensures, t .before .before .access-of .ensures, w .before .before .before .before .pre .0) (an-access _ _ _ e (t .before .before .before .before .before .if2 .left) (t .before .before .before .if3 .left)), a .1)
+    (λ p q. a .0 p q ∙ rw (t .target-of .ensures, t .before .before .before .access-of .ensures, w .before .before .before .before .pre .0) (an-access _ _ _ e (t .before .before .before .before .before .before .if2 .left) (t .before .before .before .before .if3 .left)), a .1)
 
 pub decide-spec : {M : Type 1} → statement M
 decide-spec =

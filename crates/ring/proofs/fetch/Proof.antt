@@ -4,6 +4,7 @@ use mathlib.Core.Path.{_≡_, sym, ap, _∙_}
 use mathlib.Core.Bool.{false}
 use native.Mathlib.Omega.{arith}
 use lib.Dec.{leb}
+use Rattle.gmch.specs.Machine.{lent}
 use Rattle.gmch.specs.Table.{lookIn, translate, fetch}
 use Rattle.gmch.specs.declared.Reach.{Reach}
 use Rattle.gmch.specs.declared.Reach.the-variants.{At}
@@ -22,7 +23,7 @@ shown p q = sym p ∙ q
 
 -- what the table reaches
 reached : (c : tie.After-a) → let s = c .before .before .before .before .before .before .before .args in
-    translate (s .m) (s .control) (lookIn (s .table .now)) (s .o) ≡ At (c .a .given .0 .0)
+    translate (s .m) (s .control) (lookIn (s .m) (s .control) (s .table .now) (lent (s .memory .now))) (s .o) ≡ At (c .a .given .0 .0)
 reached c = search shown
 
 -- a fetch lies inside memory
@@ -30,14 +31,14 @@ load4-requires : tie.Need-load4-requires
 load4-requires c κs =
     let s = c .before .before .before .before .before .before .before .before in
     let q = translate-at _ _ _ _ _ (reached (c .before)) in
-    let h = reached-fits _ _ (s .pre .0 .0) (q .0) 4 (omega (arith, q .1, s .pre .2)) in
+    let h = reached-fits _ _ (s .pre .0 .0) (q .0) 4 (omega (arith, q .1, s .pre .1)) in
     omega (arith, s .pre)
 
 returns-2 : tie.Need-returns-2
 returns-2 c =
     let t = c .before .before in
     ap Word (c .load4 .ensures)
-    ∙ fetch-at _ _ _ _ _ (inside (t .before .before .before)) _ (t .before .before .before .before .before .before .before .pre .2) (reached t)
+    ∙ fetch-at _ _ _ _ _ (inside (t .before .before .before)) _ (t .before .before .before .before .before .before .before .pre .1) (reached t)
 
 returns-3 : tie.Need-returns-3
 returns-3 c = fetch-denied _ _ _ _ _ (inside (c .before .before .before .before)) _ (sym (c .before .before .before .translate .ensures) ∙ c .before .c .given .1)
