@@ -6,7 +6,6 @@ use native.Mathlib.Omega.{arith}
 use lib.Dec.{leb}
 use Rattle.gmch.specs.Machine.{lent}
 use Rattle.gmch.specs.Table.{lookIn, translate, fetch}
-use Rattle.gmch.specs.declared.Reach.{Reach}
 use Rattle.gmch.specs.declared.Reach.the-variants.{At}
 use Rattle.gmch.specs.declared.Look.the-variants.{Word}
 use Rattle.gmch.proofs.Choice.{tests}
@@ -18,18 +17,23 @@ use Rattle.ring.proofs.fetch.Tie as tie
 inside : (c : tie.Else1) → let s = c .before .before .before .before .args in leb (s .m .window) (s .o) ≡ false
 inside c = let s = c .before .before .before .before .args in lt-leb (s .m .window) (s .o) (omega arith)
 
-shown : {x y z : Reach} → x ≡ y → x ≡ z → y ≡ z
-shown p q = sym p ∙ q
+entry-at-requires : tie.Need-entry-at-requires
+entry-at-requires c κs = let s = c .before .before .before .before in (s .pre .0, omega arith)
+
+-- the entry and what it makes of the address are the definition's translation
+translated : (c : tie.After-entered) → let s = c .before .before .before .before .before .before .args in
+    c .entered .result ≡ translate (s .m) (s .control) (lookIn (s .m) (s .control) (s .table .now) (lent (s .memory .now))) (s .o)
+translated c = rw (c .before .entry-at .ensures) at (c .entered .ensures)
 
 -- what the table reaches
-reached : (c : tie.After-a) → let s = c .before .before .before .before .before .before .before .args in
+reached : (c : tie.After-a) → let s = c .before .before .before .before .before .before .before .before .args in
     translate (s .m) (s .control) (lookIn (s .m) (s .control) (s .table .now) (lent (s .memory .now))) (s .o) ≡ At (c .a .given .0 .0)
-reached c = search shown
+reached c = sym (translated (c .before .before)) ∙ c .a .given .1
 
 -- a fetch lies inside memory
 load4-requires : tie.Need-load4-requires
 load4-requires c κs =
-    let s = c .before .before .before .before .before .before .before .before in
+    let s = c .before .before .before .before .before .before .before .before .before in
     let q = translate-at _ _ _ _ _ (reached (c .before)) in
     let h = reached-fits _ _ (s .pre .0 .0) (q .0) 4 (omega (arith, q .1, s .pre .1)) in
     omega (arith, s .pre)
@@ -38,17 +42,19 @@ returns-2 : tie.Need-returns-2
 returns-2 c =
     let t = c .before .before in
     ap Word (c .load4 .ensures)
-    ∙ fetch-at _ _ _ _ _ (inside (t .before .before .before)) _ (t .before .before .before .before .before .before .before .pre .1) (reached t)
+    ∙ fetch-at _ _ _ _ _ (inside (t .before .before .before .before)) _ (t .before .before .before .before .before .before .before .before .pre .1) (reached t)
 
 returns-3 : tie.Need-returns-3
-returns-3 c = fetch-denied _ _ _ _ _ (inside (c .before .before .before .before)) _ (sym (c .before .before .before .translate .ensures) ∙ c .before .c .given .1)
+returns-3 c =
+    fetch-denied _ _ _ _ _ (inside (c .before .before .before .before .before)) _ (sym (translated (c .before .before .before)) ∙ c .before .c .given .1)
 
 pub fetch-spec : {M : Type 1} → statement M
 fetch-spec =
     tie.close
     (tie.spec
     (λ c. unfold fetch in search tests)
-    (λ c κs. search needs)
+    entry-at-requires
+    (λ c κs. c .before .before .before .before .before .pre .0 .0)
     (λ c. search needs)
     (λ c. search needs)
     load4-requires
