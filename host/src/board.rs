@@ -8,17 +8,21 @@ use std::fmt;
 /// use mitrophel::Board;
 ///
 /// assert_eq!(Board::from_number(1), Some(Board::Dc100));
-/// assert_eq!(Board::named("82810"), Some(Board::I82810));
+/// assert_eq!(Board::named("82810-main"), Some(Board::I82810Main));
 /// assert_eq!(Board::default().to_string(), "82810");
 /// ```
 #[derive(Clone, Copy, Debug, Default, PartialEq, Eq, Hash)]
 #[repr(u32)]
 pub enum Board {
-    /// Intel's 82810.
+    /// Intel's 82810, with a translation table that is private to the model.
     #[default]
     I82810 = 0,
-    /// Intel's 82810-DC100.
+    /// Intel's 82810-DC100, with a translation table that is private to the model.
     Dc100 = 1,
+    /// Intel's 82810, with its translation table in main memory.
+    I82810Main = 2,
+    /// Intel's 82810-DC100, with its translation table in main memory.
+    Dc100Main = 3,
 }
 
 impl Board {
@@ -26,15 +30,15 @@ impl Board {
     ///
     /// ```
     /// # use mitrophel::Board;
-    /// assert_eq!(Board::ALL.map(Board::number), [0, 1]);
+    /// assert_eq!(Board::ALL.map(Board::number), [0, 1, 2, 3]);
     /// ```
-    pub const ALL: [Board; 2] = [Board::I82810, Board::Dc100];
+    pub const ALL: [Board; 4] = [Board::I82810, Board::Dc100, Board::I82810Main, Board::Dc100Main];
 
     /// The board kind of this number, if it is one.
     ///
     /// ```
     /// # use mitrophel::Board;
-    /// assert_eq!(Board::from_number(2), None);
+    /// assert_eq!(Board::from_number(4), None);
     /// ```
     pub fn from_number(number: u32) -> Option<Board> {
         Board::ALL.into_iter().find(|board| board.number() == number)
@@ -55,11 +59,14 @@ impl Board {
     /// ```
     /// # use mitrophel::Board;
     /// assert_eq!(Board::Dc100.name(), "dc100");
+    /// assert_eq!(Board::Dc100Main.name(), "dc100-main");
     /// ```
     pub const fn name(self) -> &'static str {
         match self {
             Board::I82810 => "82810",
             Board::Dc100 => "dc100",
+            Board::I82810Main => "82810-main",
+            Board::Dc100Main => "dc100-main",
         }
     }
 
@@ -72,6 +79,18 @@ impl Board {
     /// ```
     pub fn named(name: &str) -> Option<Board> {
         Board::ALL.into_iter().find(|board| board.name().eq_ignore_ascii_case(name))
+    }
+
+    /// Whether the translation table is in main memory: request 10 of document 02 adds "board kinds 2 (82810) and
+    /// 3 (DC100), where word i is at 2020h bits 31:12 plus 4i".
+    ///
+    /// ```
+    /// # use mitrophel::Board;
+    /// assert_eq!(Board::ALL.map(Board::table_in_memory), [false, false, true, true]);
+    /// ```
+    #[inline]
+    pub const fn table_in_memory(self) -> bool {
+        matches!(self, Board::I82810Main | Board::Dc100Main)
     }
 }
 

@@ -135,7 +135,7 @@ pub fn replay_records(board: Board, memory: &mut [u8], records: &[Record]) -> Re
 ///
 /// let mut memory = vec![0; 8 << 20];
 /// assert_eq!(gmch_replay(1, &mut memory, &[], &mut []), 0);
-/// assert_eq!(gmch_replay(2, &mut memory, &[], &mut []), 1);
+/// assert_eq!(gmch_replay(4, &mut memory, &[], &mut []), 1);
 /// ```
 #[allow(unsafe_code)]
 pub fn gmch_replay(board: u32, memory: &mut [u8], records: &[u8], answers: &mut [u8]) -> u32 {

@@ -24,7 +24,7 @@
 //!   [`call`] has the C function as it is. A call that is refused as a whole says which argument is wrong:
 //!   [`WrongArgument`]. A record that is refused has its reason in its answer: [`Refusal`].
 //! * [`record`] has a [`Record`] for each kind of access and the [`Answer`] to it, and turns them into bytes
-//!   and back. [`board`] has the two boards.
+//!   and back. [`board`] has the four boards.
 //! * [`trace`] is a list of records as text, one access a line, for people to write and read.
 //! * [`mod@reference`] is the same replay in ordinary Rust, written from the papers alone, to compare the model
 //!   with. It goes record by record, so it can be asked between two records what its registers hold, and

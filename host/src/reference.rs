@@ -1,4 +1,5 @@
-//! The replay in ordinary Rust, from document 01 section by section.
+//! The replay in ordinary Rust, from document 01 section by section, and from the requests of document 02 that have
+//! landed.
 //!
 //! It is what the proved call is compared with, and what its speed is measured against. It shares no
 //! text with the model's definitions. Every index is bounds-checked, and the only memory it makes is
@@ -12,17 +13,18 @@ mod observe;
 mod registers;
 mod ring;
 mod routing;
+mod table;
 mod window;
 
 pub use configuration::{Lsmm, Smram};
-pub use observe::{Observer, Rule, Touch, Unobserved};
+pub use observe::{Observer, Rule, TableWord, Touch, Unobserved, WordUse};
 pub use ring::Ring;
 pub use window::Fence;
 
 use crate::board::Board;
 use crate::faults::{Fault, Faultless, Faults};
 use crate::record::{Answer, Kind, Record, Refusal, Target, MAX_RECORDS, RECORD_BYTES};
-use configuration::{default_bytes, DEVICE_IDS};
+use configuration::default_bytes;
 use routing::Mode;
 
 const KIB: u32 = 1 << 10;
@@ -38,7 +40,7 @@ const MIB: u32 = 1 << 20;
 /// ```
 pub const TABLE_WORDS: usize = 16_384;
 
-/// The translation table (GTT).
+/// The translation table (GTT), where it is private to the model.
 ///
 /// ```
 /// use mitrophel::reference::{Gmch, Table, TABLE_WORDS};
@@ -134,7 +136,7 @@ pub struct Gmch<'m, O = Unobserved, F = Faultless> {
     memory: &'m mut [u8],
     table: &'m mut Table,
     tom: u32,
-    board: usize,
+    board: Board,
     /// CF8h
     config_address: u32,
     devices: [[u8; 256]; 2],
@@ -194,10 +196,11 @@ impl<'m, O: Observer, F: Faults> Gmch<'m, O, F> {
     /// The GMCH at cold start, with faults; none where the board kind or the memory's length is wrong. The
     /// table must be all zero, as it is at cold start.
     ///
-    /// "its length is TOM: a multiple of 8 MiB, 8 to 512 MiB. Board kind 0 is 82810, 1 is DC100."
+    /// "its length is TOM: a multiple of 8 MiB, 8 to 512 MiB. Board kind 0 is 82810, 1 is DC100." Request 10 of document
+    /// 02: "Add board kinds 2 (82810) and 3 (DC100)".
     #[cfg_attr(not(feature = "faults"), doc(hidden))]
     pub fn with_faults(board: u32, memory: &'m mut [u8], table: &'m mut Table, observer: O, faults: F) -> Option<Self> {
-        let board = usize::try_from(board).ok().filter(|&kind| kind < DEVICE_IDS.len())?;
+        let board = Board::from_number(board)?;
         let tom = u32::try_from(memory.len()).ok()?;
         if !tom.is_multiple_of(8 * MIB) || !(8 * MIB..=512 * MIB).contains(&tom) {
             return None;
@@ -223,11 +226,12 @@ impl<'m, O: Observer, F: Faults> Gmch<'m, O, F> {
         Some(hub)
     }
 
-    /// "Reset restores defaults and zeroes the table; memory stays."
+    /// "Reset restores defaults and zeroes the table; memory stays." Of a table in main memory: "A reset leaves those
+    /// words."
     fn reset(&mut self) {
         let smram = self.smram();
         self.restore_defaults();
-        if !self.wrong(Fault::ResetKeepsTable) {
+        if !self.board.table_in_memory() && !self.wrong(Fault::ResetKeepsTable) {
             self.table.fill(0);
         }
         if smram.locked() && self.wrong(Fault::ResetKeepsLock) {
@@ -341,7 +345,8 @@ impl<'m, O: Observer, F: Faults> Gmch<'m, O, F> {
         self.config_address
     }
 
-    /// The translation table.
+    /// The private translation table. A board whose table is in main memory leaves it all zero; see
+    /// [`Gmch::table_word`].
     ///
     /// ```
     /// # use mitrophel::reference::{Gmch, TABLE_WORDS};
@@ -388,6 +393,20 @@ impl<'m, O: Observer, F: Faults> Gmch<'m, O, F> {
     #[inline]
     pub fn tom(&self) -> u32 {
         self.tom
+    }
+
+    /// The board.
+    ///
+    /// ```
+    /// # use mitrophel::reference::{Gmch, TABLE_WORDS};
+    /// # use mitrophel::{Board, Record};
+    /// # let (mut memory, mut table) = (vec![0; 8 << 20], [0; TABLE_WORDS]);
+    /// # let mut gmch = Gmch::new(Board::I82810, &mut memory, &mut table).expect("8 MiB is a memory");
+    /// assert_eq!(gmch.board(), Board::I82810);
+    /// ```
+    #[inline]
+    pub fn board(&self) -> Board {
+        self.board
     }
 
     /// The memory lent.

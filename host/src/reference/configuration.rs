@@ -2,6 +2,7 @@
 //! space").
 
 use super::{reached, Access, Gmch, Observer, Rule, KIB, MIB};
+use crate::board::Board;
 use crate::faults::{Fault, Faults};
 use crate::record::{Answer, Target};
 
@@ -20,7 +21,7 @@ const fn row(at: usize, bytes: usize, default: u32, plain: u32, clears: u32) -> 
     Row { at, bytes, default, plain, clears }
 }
 
-/// Device 0. The device id at 02 is the 82810's; see [`DEVICE_IDS`].
+/// Device 0. The device id at 02 is the 82810's; see [`device_ids`].
 const DEVICE_0: [Row; 10] = [
     row(0x00, 2, 0x8086, 0, 0),
     row(0x02, 2, 0x7120, 0, 0),
@@ -52,8 +53,14 @@ const DEVICE_1: [Row; 14] = [
     row(0xE0, 2, 0x0000, 0x0103, 0),
 ];
 
-/// "02 7120h/7122h" and "02 7121h/7123h": by board kind, then by device.
-pub(super) const DEVICE_IDS: [[u16; 2]; 2] = [[0x7120, 0x7121], [0x7122, 0x7123]];
+/// "02 7120h/7122h" and "02 7121h/7123h", by device: the 82810's and the DC100's. Board kinds 2 and 3 are
+/// "(82810)" and "(DC100)" too (request 10 of document 02).
+const fn device_ids(board: Board) -> [u16; 2] {
+    match board {
+        Board::I82810 | Board::I82810Main => [0x7120, 0x7121],
+        Board::Dc100 | Board::Dc100Main => [0x7122, 0x7123],
+    }
+}
 
 const SMRAM: usize = 0x70;
 const MISCC: usize = 0x72;
@@ -88,9 +95,9 @@ const fn layout(rows: &[Row]) -> Layout {
 static LAYOUTS: [Layout; 2] = [layout(&DEVICE_0), layout(&DEVICE_1)];
 
 /// A device's 256 bytes at cold start.
-pub(super) fn default_bytes(board: usize, device: usize) -> [u8; 256] {
+pub(super) fn default_bytes(board: Board, device: usize) -> [u8; 256] {
     let mut bytes = LAYOUTS[device].default;
-    bytes[2..4].copy_from_slice(&DEVICE_IDS[board][device].to_le_bytes());
+    bytes[2..4].copy_from_slice(&device_ids(board)[device].to_le_bytes());
     bytes
 }
 

@@ -1,6 +1,6 @@
 //! Looking at a replay from outside, at no cost to one that nobody looks at.
 
-use crate::record::{Answer, Record};
+use crate::record::{Answer, Record, Refusal};
 use std::fmt;
 
 /// Is told what a replay does. Every method does nothing unless it is overridden.
@@ -36,6 +36,11 @@ pub trait Observer {
     #[inline(always)]
     fn touched(&mut self, _touch: Touch) {}
 
+    /// A word of a translation table in main memory was asked for. Where it was not refused,
+    /// [`Observer::touched`] comes next, with its four bytes.
+    #[inline(always)]
+    fn table_word(&mut self, _word: TableWord) {}
+
     /// A record was answered.
     #[inline(always)]
     fn answered(&mut self, _record: &Record, _answer: &Answer) {}
@@ -65,6 +70,11 @@ impl<O: Observer> Observer for &mut O {
     #[inline(always)]
     fn touched(&mut self, touch: Touch) {
         (**self).touched(touch);
+    }
+
+    #[inline(always)]
+    fn table_word(&mut self, word: TableWord) {
+        (**self).table_word(word);
     }
 
     #[inline(always)]
@@ -102,6 +112,56 @@ pub struct Touch {
     pub write: bool,
     /// Whether the bytes are protected.
     pub protected: bool,
+}
+
+/// What a word of the translation table in main memory was asked for.
+#[derive(Clone, Copy, Debug, PartialEq, Eq, Hash)]
+pub enum WordUse {
+    /// An access through the window, or the parser's fetch, looks its entry up.
+    Lookup,
+    /// Its register is read.
+    Read,
+    /// Its register is written.
+    Write,
+}
+
+/// One use of a word of a translation table in main memory: request 10 of document 02. With [`TableWord::refusal`] a
+/// code 7 or 6 is the word's own, and without it the entry's.
+///
+/// ```
+/// use mitrophel::reference::{Gmch, Observer, TableWord, WordUse, TABLE_WORDS};
+/// use mitrophel::{Board, Record, Refusal};
+///
+/// #[derive(Default)]
+/// struct Last(Option<TableWord>);
+/// impl Observer for Last {
+///     fn table_word(&mut self, word: TableWord) {
+///         self.0 = Some(word);
+///     }
+/// }
+/// let (mut memory, mut table) = (vec![0; 8 << 20], [0; TABLE_WORDS]);
+/// let mut gmch = Gmch::observed(Board::I82810Main, &mut memory, &mut table, Last::default()).expect("a memory");
+/// # for (register, data) in [(0x70, 0x40), (0x814, 0xF000_0000), (0x804, 2)] {
+/// #     gmch.answer(&Record::io_write(0xCF8, 4, 0x8000_0000 | register));
+/// #     gmch.answer(&Record::io_write(0xCFC, 4, data));
+/// # }
+/// // The registers are at F0000000h, and the table is at the end of memory.
+/// gmch.answer(&Record::write(0xF000_2020, 4, 0x80_0000, false));
+/// let answer = gmch.answer(&Record::read(0xF001_0048, 4, false));
+/// let refusal = Some(Refusal::PageAboveMemory);
+/// assert_eq!(answer.refusal(), refusal);
+/// assert_eq!(gmch.observer().0, Some(TableWord { number: 18, address: 0x80_0048, by: WordUse::Read, refusal }));
+/// ```
+#[derive(Clone, Copy, Debug, PartialEq, Eq)]
+pub struct TableWord {
+    /// Its number, below [`TABLE_WORDS`](super::TABLE_WORDS).
+    pub number: usize,
+    /// Where it lies, which may be past 32 bits.
+    pub address: u64,
+    /// What it was asked for.
+    pub by: WordUse,
+    /// The word's own code 7 or 6.
+    pub refusal: Option<Refusal>,
 }
 
 macro_rules! rules {

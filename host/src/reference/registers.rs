@@ -1,6 +1,6 @@
 //! The memory-mapped registers (document 01, "Table, fences, ring, interrupts").
 
-use super::{reached, Access, Fence, Gmch, Observer};
+use super::{reached, Access, Fence, Gmch, Observer, WordUse};
 use crate::faults::{Fault, Faults};
 use crate::record::{Answer, Refusal, Target};
 
@@ -62,8 +62,6 @@ impl Listed {
     }
 }
 
-/// "Entry i (10000h + 4i) stores data AND 3FFFF007h".
-const ENTRY_BITS: u32 = 0x3FFF_F007;
 /// "2020h keeps 31:12 and bit 0"
 const TABLE_CONTROL_BITS: u32 = 0xFFFF_F001;
 /// "2030h tail 20:3"
@@ -79,7 +77,8 @@ const USER_INTERRUPT: u16 = 1 << 1;
 
 impl<O: Observer, F: Faults> Gmch<'_, O, F> {
     /// Code 10: "access touches a listed memory-mapped register without being exactly it". Others
-    /// "read 0, ignore writes".
+    /// "read 0, ignore writes". A table word in main memory is refused with 7 or 6 "after code 10 for a register
+    /// access", "translation off does not stop register access", and "answered reads and writes there keep target 5".
     #[inline]
     pub(super) fn register_access(&mut self, offset: u32, access: Access) -> Result<Answer, Refusal> {
         let value = match Listed::in_word(offset) {
@@ -90,9 +89,9 @@ impl<O: Observer, F: Faults> Gmch<'_, O, F> {
                     return Err(Refusal::NotExactlyRegister);
                 }
                 match access.data {
-                    None => self.register_read(listed),
+                    None => self.register_read(listed)?,
                     Some(data) => {
-                        self.register_write(listed, data);
+                        self.register_write(listed, data)?;
                         0
                     }
                 }
@@ -102,7 +101,8 @@ impl<O: Observer, F: Faults> Gmch<'_, O, F> {
         Ok(reached(Target::MemoryMapped, offset, value))
     }
 
-    /// The listed memory-mapped register at this offset, as a read of it gives it; none where none starts.
+    /// The listed memory-mapped register at this offset, as a read of it gives it; none where none starts, or where
+    /// the read is refused, as that of a table word in main memory can be.
     ///
     /// ```
     /// # use mitrophel::reference::{Gmch, TABLE_WORDS};
@@ -113,12 +113,22 @@ impl<O: Observer, F: Faults> Gmch<'_, O, F> {
     /// assert_eq!(gmch.register(0x20AA), None);
     /// ```
     pub fn register(&self, offset: u32) -> Option<u32> {
-        Listed::in_word(offset).filter(|_| offset.is_multiple_of(4)).map(|listed| self.register_read(listed))
+        let listed = Listed::in_word(offset).filter(|_| offset.is_multiple_of(4))?;
+        self.register_value(listed).ok()
+    }
+
+    /// The value that a read gives, and the observer is told where it is a table word's.
+    #[inline]
+    fn register_read(&mut self, listed: Listed) -> Result<u32, Refusal> {
+        match listed {
+            Listed::Entry(i) => self.read_table_word(i, WordUse::Read),
+            listed => self.register_value(listed),
+        }
     }
 
     #[inline]
-    fn register_read(&self, listed: Listed) -> u32 {
-        match listed {
+    fn register_value(&self, listed: Listed) -> Result<u32, Refusal> {
+        Ok(match listed {
             Listed::Fence(i) => self.fences[i].0,
             Listed::TableControl => self.table_control,
             Listed::RingTail => self.ring.tail,
@@ -130,12 +140,12 @@ impl<O: Observer, F: Faults> Gmch<'_, O, F> {
             Listed::InterruptMask => u32::from(self.interrupt_mask),
             // "20ACh reads 0 and ignores writes"
             Listed::InterruptStatus => 0,
-            Listed::Entry(i) => self.table[i],
-        }
+            Listed::Entry(i) => self.table_word(i)?,
+        })
     }
 
     #[inline]
-    fn register_write(&mut self, listed: Listed, data: u32) {
+    fn register_write(&mut self, listed: Listed, data: u32) -> Result<(), Refusal> {
         match listed {
             Listed::Fence(i) => self.fences[i] = Fence(data & Fence::BITS),
             Listed::TableControl => self.table_control = data & TABLE_CONTROL_BITS,
@@ -153,9 +163,9 @@ impl<O: Observer, F: Faults> Gmch<'_, O, F> {
                 }
             }
             Listed::InterruptStatus => {}
-            Listed::Entry(i) if self.wrong(Fault::EntryStoredWhole) => self.table[i] = data,
-            Listed::Entry(i) => self.table[i] = data & ENTRY_BITS,
+            Listed::Entry(i) => self.write_table_word(i, data)?,
         }
+        Ok(())
     }
 
     /// "A user interrupt sets identity bit 1 if mask bit 1 is 0."

@@ -84,9 +84,7 @@ impl<O: Observer, F: Faults> Gmch<'_, O, F> {
             return Ok(false);
         };
         self.observer.touched(Touch { address, width: 4, write: false, protected: self.protected(address) });
-        let at = address as usize;
-        let word = u32::from_le_bytes(*self.memory[at..].first_chunk().expect("four bytes of a page below TOM"));
-        self.execute(word)?;
+        self.execute(self.word_at(address))?;
         self.advance();
         Ok(true)
     }
@@ -95,7 +93,7 @@ impl<O: Observer, F: Faults> Gmch<'_, O, F> {
     /// code 11), or offsets equal". The codes come in the order "11, then empty check, then 8, 3, 4,
     /// 5, 7, 6". "A step fetches the word at start + offset, unfenced."
     #[inline]
-    fn next_word(&self) -> Result<Option<u32>, Refusal> {
+    fn next_word(&mut self) -> Result<Option<u32>, Refusal> {
         let Ring { tail, start, .. } = self.ring;
         let head = self.ring.head_offset();
         if !self.ring.enabled() || head == tail && self.wrong(Fault::EmptyBeforeRange) {
@@ -189,6 +187,9 @@ impl<O: Observer, F: Faults> Gmch<'_, O, F> {
         if offset >= self.window_bytes() {
             return Err(Refusal::OutsideWindow);
         }
-        self.translate(offset)
+        if !self.translation_on() {
+            return Err(Refusal::TranslationOff);
+        }
+        self.translate_by(self.table_word(offset as usize / 4096)?, offset)
     }
 }

@@ -227,6 +227,12 @@ impl<O: Observer, F: Faults> Gmch<'_, O, F> {
         };
         reached(Target::Memory, address, value)
     }
+
+    /// The word of main memory at this address, which is below TOM and a multiple of 4.
+    #[inline]
+    pub(super) fn word_at(&self, address: u32) -> u32 {
+        u32::from_le_bytes(*self.memory[address as usize..].first_chunk().expect("four bytes below TOM"))
+    }
 }
 
 #[cfg(test)]

@@ -1,7 +1,7 @@
 //! The window: fences and translation (document 01, "Table, fences, ring, interrupts").
 
 use super::routing::Mode;
-use super::{Access, Gmch, Observer, KIB, MIB};
+use super::{Access, Gmch, Observer, WordUse, KIB, MIB};
 use crate::faults::{Fault, Faults};
 use crate::record::{Answer, Refusal};
 
@@ -78,7 +78,8 @@ impl Fence {
 }
 
 impl<O: Observer, F: Faults> Gmch<'_, O, F> {
-    /// A processor access through the window; the codes come in the order "9, 3, 4, 5, 7, 6".
+    /// A processor access through the window; the codes come in the order "9, 3, 4, 5, 7, 6", with 7 and 6 of a table
+    /// word in main memory "after code 3".
     #[inline]
     pub(super) fn window_access(&mut self, offset: u32, access: Access, mode: Mode) -> Result<Answer, Refusal> {
         if self.wrong(Fault::TranslationBeforeFence) && !self.translation_on() {
@@ -88,7 +89,7 @@ impl<O: Observer, F: Faults> Gmch<'_, O, F> {
         let management = matches!(mode, Mode::Processor { management: true, .. });
         let address = match self.translate(offset) {
             Err(Refusal::PageProtected) if management && self.wrong(Fault::ManagementExemptInWindow) => {
-                entry_page(self.table[offset as usize / 4096]) + offset % 4096
+                entry_page(self.table_word(offset as usize / 4096)?) + offset % 4096
             }
             result => result?,
         };
@@ -119,18 +120,24 @@ impl<O: Observer, F: Faults> Gmch<'_, O, F> {
 
     /// "2020h keeps 31:12 and bit 0, translation on."
     #[inline]
-    fn translation_on(&self) -> bool {
+    pub(super) fn translation_on(&self) -> bool {
         self.table_control & 1 != 0
     }
 
-    /// "Graphics offset o reads entry o / 4096; the result is page start + o mod 4096." The codes
-    /// come in the order 3, 4, 5, 7, 6.
+    /// "Graphics offset o reads entry o / 4096". The codes come in the order 3, 7 and 6 of a table word in main memory,
+    /// then the entry's own 4, 5, 7, 6.
     #[inline]
-    pub(super) fn translate(&self, offset: u32) -> Result<u32, Refusal> {
+    pub(super) fn translate(&mut self, offset: u32) -> Result<u32, Refusal> {
         if !self.translation_on() {
             return Err(Refusal::TranslationOff);
         }
-        let entry = self.table[offset as usize / 4096];
+        let entry = self.read_table_word(offset as usize / 4096, WordUse::Lookup)?;
+        self.translate_by(entry, offset)
+    }
+
+    /// "the result is page start + o mod 4096", by this entry; the codes come in the order 4, 5, 7, 6.
+    #[inline]
+    pub(super) fn translate_by(&self, entry: u32, offset: u32) -> Result<u32, Refusal> {
         self.check_entry(entry)?;
         let page = entry_page(entry);
         let top = if self.wrong(Fault::LastPageRefused) { self.tom - 4096 } else { self.tom };

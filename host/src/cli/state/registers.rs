@@ -56,8 +56,8 @@ fn config_words(hub: &Hub<'_>, board: Board, device: usize, row: &Register) -> S
 /// The board's chip as Intel writes it.
 pub fn chip(board: Board) -> &'static str {
     match board {
-        Board::I82810 => "82810",
-        Board::Dc100 => "82810-DC100",
+        Board::I82810 | Board::I82810Main => "82810",
+        Board::Dc100 | Board::Dc100Main => "82810-DC100",
     }
 }
 
