@@ -1,7 +1,7 @@
 //! Deliberate faults for the mutation check.
 //!
 //! A test that compares two replays is worth what it would notice. Each [`Fault`] makes the
-//! reference wrong in one way that a careful reader of document 01 could still fall into; the
+//! reference wrong in one way that a careful reader of the papers could still fall into; the
 //! mutation check asks that the random comparison notices every one. The reference asks for its
 //! faults through a type parameter, so [`Faultless`] leaves nothing of them in the compiled code.
 
@@ -141,7 +141,7 @@ faults! {
     // Memory-mapped registers.
     /// An access inside a listed register counts as the register.
     PartOfRegisterAccepted,
-    /// A table entry keeps all 32 bits.
+    /// An entry of the private table keeps all 32 bits.
     EntryStoredWhole,
 
     // Translation.
@@ -165,6 +165,66 @@ faults! {
     TranslationBeforeFence,
     /// Entries of type 11 are refused with code 5.
     Type11Refused,
+
+    // The table in main memory: request 10 of document 02.
+    /// Board kind 2 has a private table.
+    PrivateTableOnKind2,
+    /// Board kind 3 has a private table.
+    PrivateTableOnKind3,
+    /// Board kind 2 has the ids of the DC100, and kind 3 those of the 82810.
+    NewBoardIdsExchanged,
+    /// A word's address wraps at 32 bits.
+    TableAddressWraps,
+    /// The table's base is 2020h bits 31:16.
+    TableBaseOf64KiB,
+    /// The last word below TOM is refused with code 7.
+    LastWordRefused,
+    /// Every word is refused with code 7 where the table's last one is at or above TOM.
+    WholeTableBelowTop,
+    /// A lookup whose word is at or above TOM is refused with code 4.
+    WordAboveMemoryNotValid,
+    /// Protection is asked of the table's first word alone.
+    ProtectionOfTableBase,
+    /// A word in taken memory is refused with code 6.
+    TakenWordRefused,
+    /// A word in C0000h-FFFFFh is refused with code 6.
+    BiosWordRefused,
+    /// A lookup reads a word in protected memory.
+    LookupReadsProtectedWords,
+    /// The parser's lookup reads a word in protected memory.
+    FetchReadsProtectedWords,
+    /// A register read reads a word in protected memory.
+    RegisterReadsProtectedWords,
+    /// A register write writes a word in protected memory.
+    RegisterWritesProtectedWords,
+    /// A register read of management mode reads a word in protected memory.
+    ManagementReadsProtectedWords,
+    /// A register access that is refused because its word is protected sets the error bit.
+    ProtectedWordSetsError,
+    /// The word's 7 and 6 come before 3.
+    WordBeforeTranslationOff,
+    /// The word's 6 comes after the entry's own codes.
+    EntryBeforeWord,
+    /// The word's 7 and 6 come before 10.
+    WordBeforeExactness,
+    /// With translation off a register access is refused with code 3.
+    TranslationOffStopsRegisters,
+    /// A register read masks the word.
+    MemoryWordReadMasked,
+    /// A register write stores all 32 bits.
+    MemoryWordStoredWhole,
+    /// A register access that reaches its word is answered with target 1 and the word's address.
+    WordAnsweredAsMemory,
+    /// A word's bits 31:30 count in its page.
+    HighEntryBitsCount,
+    /// A word in which bits 31:30 and 11:3 are not zero is refused with code 4.
+    UnnamedEntryBitsRefused,
+    /// Lookups see what register writes stored, and no other write.
+    LookupsSeeRegisterWritesOnly,
+    /// A reset zeroes the words.
+    ResetClearsWords,
+    /// A reset leaves 2020h.
+    ResetKeepsTableControl,
 
     // Fences.
     /// The highest matching fence wins.

@@ -229,9 +229,16 @@ impl<'m, O: Observer, F: Faults> Gmch<'m, O, F> {
     /// "Reset restores defaults and zeroes the table; memory stays." Of a table in main memory: "A reset leaves those
     /// words."
     fn reset(&mut self) {
-        let smram = self.smram();
+        let (smram, table_control) = (self.smram(), self.table_control);
+        let in_memory = self.table_in_memory();
+        if in_memory && self.wrong(Fault::ResetClearsWords) {
+            self.clear_words();
+        }
         self.restore_defaults();
-        if !self.board.table_in_memory() && !self.wrong(Fault::ResetKeepsTable) {
+        if in_memory && self.wrong(Fault::ResetKeepsTableControl) {
+            self.table_control = table_control;
+        }
+        if !in_memory && !self.wrong(Fault::ResetKeepsTable) {
             self.table.fill(0);
         }
         if smram.locked() && self.wrong(Fault::ResetKeepsLock) {
@@ -241,7 +248,12 @@ impl<'m, O: Observer, F: Faults> Gmch<'m, O, F> {
 
     fn restore_defaults(&mut self) {
         self.config_address = 0;
-        self.devices = [default_bytes(self.board, 0), default_bytes(self.board, 1)];
+        let board = match self.board {
+            Board::I82810Main if self.wrong(Fault::NewBoardIdsExchanged) => Board::Dc100Main,
+            Board::Dc100Main if self.wrong(Fault::NewBoardIdsExchanged) => Board::I82810Main,
+            board => board,
+        };
+        self.devices = [default_bytes(board, 0), default_bytes(board, 1)];
         self.subsystem_written = 0;
         self.fences = [Fence(0); 8];
         self.table_control = 0;

@@ -150,7 +150,8 @@ pub enum WordUse {
 /// let answer = gmch.answer(&Record::read(0xF001_0048, 4, false));
 /// let refusal = Some(Refusal::PageAboveMemory);
 /// assert_eq!(answer.refusal(), refusal);
-/// assert_eq!(gmch.observer().0, Some(TableWord { number: 18, address: 0x80_0048, by: WordUse::Read, refusal }));
+/// let word = TableWord { number: 18, address: 0x80_0048, by: WordUse::Read, value: None, refusal };
+/// assert_eq!(gmch.observer().0, Some(word));
 /// ```
 #[derive(Clone, Copy, Debug, PartialEq, Eq)]
 pub struct TableWord {
@@ -160,6 +161,8 @@ pub struct TableWord {
     pub address: u64,
     /// What it was asked for.
     pub by: WordUse,
+    /// What was read or stored; none where the word was refused.
+    pub value: Option<u32>,
     /// The word's own code 7 or 6.
     pub refusal: Option<Refusal>,
 }

@@ -1,5 +1,6 @@
 //! The memory-mapped registers (document 01, "Table, fences, ring, interrupts").
 
+use super::routing::Mode;
 use super::{reached, Access, Fence, Gmch, Observer, WordUse};
 use crate::faults::{Fault, Faults};
 use crate::record::{Answer, Refusal, Target};
@@ -62,6 +63,8 @@ impl Listed {
     }
 }
 
+/// "Entry i (10000h + 4i) stores data AND 3FFFF007h".
+pub(super) const ENTRY_BITS: u32 = 0x3FFF_F007;
 /// "2020h keeps 31:12 and bit 0"
 const TABLE_CONTROL_BITS: u32 = 0xFFFF_F001;
 /// "2030h tail 20:3"
@@ -77,21 +80,28 @@ const USER_INTERRUPT: u16 = 1 << 1;
 
 impl<O: Observer, F: Faults> Gmch<'_, O, F> {
     /// Code 10: "access touches a listed memory-mapped register without being exactly it". Others
-    /// "read 0, ignore writes". A table word in main memory is refused with 7 or 6 "after code 10 for a register
-    /// access", "translation off does not stop register access", and "answered reads and writes there keep target 5".
+    /// "read 0, ignore writes".
     #[inline]
-    pub(super) fn register_access(&mut self, offset: u32, access: Access) -> Result<Answer, Refusal> {
+    pub(super) fn register_access(&mut self, offset: u32, access: Access, mode: Mode) -> Result<Answer, Refusal> {
         let value = match Listed::in_word(offset) {
             Some(listed) if offset % 4 < listed.bytes() => {
                 let exact = offset.is_multiple_of(4) && access.width == listed.bytes();
                 let inside = offset % 4 + access.width <= listed.bytes();
+                let word = match listed {
+                    Listed::Entry(i) if self.table_in_memory() => Some(i),
+                    _ => None,
+                };
+                if self.wrong(Fault::WordBeforeExactness) {
+                    word.map_or(Ok(0), |i| self.reach_word(i, WordUse::of(access)))?;
+                }
                 if !(exact || inside && self.wrong(Fault::PartOfRegisterAccepted)) {
                     return Err(Refusal::NotExactlyRegister);
                 }
-                match access.data {
-                    None => self.register_read(listed)?,
-                    Some(data) => {
-                        self.register_write(listed, data)?;
+                match (word, access.data) {
+                    (Some(i), _) => return self.word_access(i, offset, access, mode),
+                    (None, None) => self.register_read(listed),
+                    (None, Some(data)) => {
+                        self.register_write(listed, data);
                         0
                     }
                 }
@@ -102,7 +112,7 @@ impl<O: Observer, F: Faults> Gmch<'_, O, F> {
     }
 
     /// The listed memory-mapped register at this offset, as a read of it gives it; none where none starts, or where
-    /// the read is refused, as that of a table word in main memory can be.
+    /// the read would be refused, as that of a table word in main memory can be.
     ///
     /// ```
     /// # use mitrophel::reference::{Gmch, TABLE_WORDS};
@@ -113,22 +123,16 @@ impl<O: Observer, F: Faults> Gmch<'_, O, F> {
     /// assert_eq!(gmch.register(0x20AA), None);
     /// ```
     pub fn register(&self, offset: u32) -> Option<u32> {
-        let listed = Listed::in_word(offset).filter(|_| offset.is_multiple_of(4))?;
-        self.register_value(listed).ok()
-    }
-
-    /// The value that a read gives, and the observer is told where it is a table word's.
-    #[inline]
-    fn register_read(&mut self, listed: Listed) -> Result<u32, Refusal> {
-        match listed {
-            Listed::Entry(i) => self.read_table_word(i, WordUse::Read),
-            listed => self.register_value(listed),
+        match Listed::in_word(offset).filter(|_| offset.is_multiple_of(4))? {
+            Listed::Entry(i) => self.table_word(i).ok(),
+            listed => Some(self.register_read(listed)),
         }
     }
 
+    /// A listed register; a table word is one of the private table.
     #[inline]
-    fn register_value(&self, listed: Listed) -> Result<u32, Refusal> {
-        Ok(match listed {
+    fn register_read(&self, listed: Listed) -> u32 {
+        match listed {
             Listed::Fence(i) => self.fences[i].0,
             Listed::TableControl => self.table_control,
             Listed::RingTail => self.ring.tail,
@@ -140,12 +144,13 @@ impl<O: Observer, F: Faults> Gmch<'_, O, F> {
             Listed::InterruptMask => u32::from(self.interrupt_mask),
             // "20ACh reads 0 and ignores writes"
             Listed::InterruptStatus => 0,
-            Listed::Entry(i) => self.table_word(i)?,
-        })
+            Listed::Entry(i) => self.table[i],
+        }
     }
 
+    /// A listed register; a table word is one of the private table.
     #[inline]
-    fn register_write(&mut self, listed: Listed, data: u32) -> Result<(), Refusal> {
+    fn register_write(&mut self, listed: Listed, data: u32) {
         match listed {
             Listed::Fence(i) => self.fences[i] = Fence(data & Fence::BITS),
             Listed::TableControl => self.table_control = data & TABLE_CONTROL_BITS,
@@ -163,9 +168,9 @@ impl<O: Observer, F: Faults> Gmch<'_, O, F> {
                 }
             }
             Listed::InterruptStatus => {}
-            Listed::Entry(i) => self.write_table_word(i, data)?,
+            Listed::Entry(i) if self.wrong(Fault::EntryStoredWhole) => self.table[i] = data,
+            Listed::Entry(i) => self.table[i] = data & ENTRY_BITS,
         }
-        Ok(())
     }
 
     /// "A user interrupt sets identity bit 1 if mask bit 1 is 0."

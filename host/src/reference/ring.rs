@@ -56,14 +56,22 @@ impl<O: Observer, F: Faults> Gmch<'_, O, F> {
     /// which is code 0 with nothing further checked. Count = completed steps". "A parser run gives
     /// target 0, the head register afterwards as address, value 0 and the count."
     pub(super) fn run(&mut self, budget: u32) -> Answer {
+        match self.table_in_memory() {
+            false => self.run_by::<false>(budget),
+            true => self.run_by::<true>(budget),
+        }
+    }
+
+    /// [`Gmch::run`] with the table in this home.
+    fn run_by<const IN_MEMORY: bool>(&mut self, budget: u32) -> Answer {
         let mut answer = Answer::default();
         if budget == 0 && self.wrong(Fault::BudgetZeroChecks) {
-            answer.code = self.next_word().map_or_else(Refusal::code, |_| 0);
+            answer.code = self.next_word::<IN_MEMORY>().map_or_else(Refusal::code, |_| 0);
         }
         // "A run ignores GMS".
         let idle = self.wrong(Fault::RunNeedsGraphics) && !self.smram().graphics_on();
         while answer.count < budget && !idle {
-            match self.step() {
+            match self.step::<IN_MEMORY>() {
                 Ok(true) => answer.count += 1,
                 Ok(false) => break,
                 Err(refusal) => {
@@ -79,8 +87,8 @@ impl<O: Observer, F: Faults> Gmch<'_, O, F> {
 
     /// One step: true if it was completed, false where the run ends by itself.
     #[inline]
-    fn step(&mut self) -> Result<bool, Refusal> {
-        let Some(address) = self.next_word()? else {
+    fn step<const IN_MEMORY: bool>(&mut self) -> Result<bool, Refusal> {
+        let Some(address) = self.next_word::<IN_MEMORY>()? else {
             return Ok(false);
         };
         self.observer.touched(Touch { address, width: 4, write: false, protected: self.protected(address) });
@@ -93,7 +101,7 @@ impl<O: Observer, F: Faults> Gmch<'_, O, F> {
     /// code 11), or offsets equal". The codes come in the order "11, then empty check, then 8, 3, 4,
     /// 5, 7, 6". "A step fetches the word at start + offset, unfenced."
     #[inline]
-    fn next_word(&mut self) -> Result<Option<u32>, Refusal> {
+    fn next_word<const IN_MEMORY: bool>(&mut self) -> Result<Option<u32>, Refusal> {
         let Ring { tail, start, .. } = self.ring;
         let head = self.ring.head_offset();
         if !self.ring.enabled() || head == tail && self.wrong(Fault::EmptyBeforeRange) {
@@ -112,7 +120,12 @@ impl<O: Observer, F: Faults> Gmch<'_, O, F> {
             return Err(Refusal::OutsideWindow);
         }
         let offset = if self.wrong(Fault::FetchFenced) { self.fenced(offset)? } else { offset };
-        self.translate(offset).map(Some)
+        match self.translate::<IN_MEMORY>(offset) {
+            Err(Refusal::PageProtected) if IN_MEMORY && self.wrong(Fault::FetchReadsProtectedWords) => {
+                self.translate_by(self.open_word(offset as usize / 4096), offset).map(Some)
+            }
+            result => result.map(Some),
+        }
     }
 
     /// "Bits 31:29 zero and 28:23: 00h nothing, 02h user interrupt, 04h flush (nothing), else 12;

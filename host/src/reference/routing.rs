@@ -46,7 +46,7 @@ impl<O: Observer, F: Faults> Gmch<'_, O, F> {
                 Ok(reached(Target::Hub, access.address, 0))
             }
             Route::Vga(offset) => Ok(reached(Target::Vga, offset, 0)),
-            Route::Registers(offset) => self.register_access(offset, access),
+            Route::Registers(offset) => self.register_access(offset, access, mode),
             Route::Window(offset) => self.window_access(offset, access, mode),
         }
     }

@@ -1,12 +1,23 @@
 //! The words of the translation table in their two homes: private to the model (document 01) or in main memory
 //! (request 10 of document 02).
 
-use super::{Gmch, Observer, TableWord, Touch, WordUse, TABLE_WORDS};
+use super::registers::ENTRY_BITS;
+use super::routing::Mode;
+use super::{reached, Access, Gmch, Observer, TableWord, Touch, WordUse, TABLE_WORDS};
+use crate::board::Board;
 use crate::faults::{Fault, Faults};
-use crate::record::Refusal;
+use crate::record::{Answer, Refusal, Target};
 
-/// "Entry i (10000h + 4i) stores data AND 3FFFF007h".
-const ENTRY_BITS: u32 = 0x3FFF_F007;
+impl WordUse {
+    /// What a register access asks its word for.
+    #[inline]
+    pub(super) fn of(access: Access) -> WordUse {
+        match access.data {
+            None => WordUse::Read,
+            Some(_) => WordUse::Write,
+        }
+    }
+}
 
 impl<O: Observer, F: Faults> Gmch<'_, O, F> {
     /// Where word `number` of the table lies in main memory: "word i is at 2020h bits 31:12 plus 4i", and "The sum does
@@ -29,8 +40,27 @@ impl<O: Observer, F: Faults> Gmch<'_, O, F> {
     /// ```
     #[inline]
     pub fn table_word_address(&self, number: usize) -> Option<u64> {
-        let in_memory = self.board.table_in_memory() && number < TABLE_WORDS;
-        in_memory.then(|| u64::from(self.table_control & 0xFFFF_F000) + 4 * number as u64)
+        (self.table_in_memory() && number < TABLE_WORDS).then(|| self.word_address(number))
+    }
+
+    #[inline]
+    fn word_address(&self, number: usize) -> u64 {
+        let base = self.table_control & if self.wrong(Fault::TableBaseOf64KiB) { 0xFFFF_0000 } else { 0xFFFF_F000 };
+        match self.wrong(Fault::TableAddressWraps) {
+            true => u64::from(base.wrapping_add(4 * number as u32)),
+            false => u64::from(base) + 4 * number as u64,
+        }
+    }
+
+    /// Whether the table is in main memory; see [`Board::table_in_memory`].
+    #[inline]
+    pub(super) fn table_in_memory(&self) -> bool {
+        let kept_private = match self.board {
+            Board::I82810Main => self.wrong(Fault::PrivateTableOnKind2),
+            Board::Dc100Main => self.wrong(Fault::PrivateTableOnKind3),
+            _ => false,
+        };
+        self.board.table_in_memory() && !kept_private
     }
 
     /// Word `number` of the table as a lookup gets it, or the word's own refusal, 7 or 6. A read of its register gives
@@ -57,58 +87,132 @@ impl<O: Observer, F: Faults> Gmch<'_, O, F> {
     /// ```
     #[inline]
     pub fn table_word(&self, number: usize) -> Result<u32, Refusal> {
-        match self.table_word_address(number) {
-            None => Ok(self.table[number]),
-            Some(address) => Ok(self.word_at(self.reach_word(address)?)),
+        assert!(number < TABLE_WORDS, "the table has {TABLE_WORDS} words");
+        match self.table_in_memory() {
+            true => self.reach_word(number, WordUse::Lookup).map(|address| self.word_at(address)),
+            false => Ok(self.table[number]),
         }
     }
 
-    /// "A word at or above TOM gives code 7 and one in protected memory code 6 ... 7 first": nothing else is asked of
-    /// its address.
+    /// "A word at or above TOM gives code 7 and one in protected memory code 6 ... 7 first": where a word in main memory
+    /// lies. Nothing else is asked of its address.
     #[inline]
-    fn reach_word(&self, address: u64) -> Result<u32, Refusal> {
-        let below = u32::try_from(address).ok().filter(|&address| address < self.tom);
-        let address = below.ok_or(Refusal::PageAboveMemory)?;
-        if self.protected(address) {
+    pub(super) fn reach_word(&self, number: usize, by: WordUse) -> Result<u32, Refusal> {
+        let address = self.word_address(number);
+        let last = if self.wrong(Fault::WholeTableBelowTop) { self.word_address(TABLE_WORDS - 1) } else { address };
+        let top = if self.wrong(Fault::LastWordRefused) { self.tom - 4 } else { self.tom };
+        if last >= u64::from(top) {
+            return Err(match by {
+                WordUse::Lookup if self.wrong(Fault::WordAboveMemoryNotValid) => Refusal::EntryNotValid,
+                _ => Refusal::PageAboveMemory,
+            });
+        }
+        let address = address as u32;
+        let opened = match by {
+            WordUse::Lookup => Fault::LookupReadsProtectedWords,
+            WordUse::Read => Fault::RegisterReadsProtectedWords,
+            WordUse::Write => Fault::RegisterWritesProtectedWords,
+        };
+        if self.word_closed(address) && !self.wrong(opened) {
             return Err(Refusal::PageProtected);
         }
         Ok(address)
     }
 
-    /// [`Gmch::table_word`], and the observer is told.
+    /// Whether a word here gets code 6.
     #[inline]
-    pub(super) fn read_table_word(&mut self, number: usize, by: WordUse) -> Result<u32, Refusal> {
-        let word = self.table_word(number);
-        self.tell_of_word(number, by, word.err());
+    fn word_closed(&self, address: u32) -> bool {
+        let tested = if self.wrong(Fault::ProtectionOfTableBase) { self.word_address(0) as u32 } else { address };
+        self.protected(tested)
+            || self.wrong(Fault::TakenWordRefused) && address >= self.usable_top()
+            || self.wrong(Fault::BiosWordRefused) && (0xC_0000..=0xF_FFFF).contains(&address)
+    }
+
+    /// A lookup in main memory: "every lookup go to that word".
+    #[inline]
+    pub(super) fn look_up(&mut self, number: usize) -> Result<u32, Refusal> {
+        let word = self.reach_word(number, WordUse::Lookup).map(|address| {
+            match self.wrong(Fault::LookupsSeeRegisterWritesOnly) {
+                true => self.table[number],
+                false => self.word_at(address),
+            }
+        });
+        self.tell_of_word(number, WordUse::Lookup, word);
         word
     }
 
-    /// "Table reads and writes through 10000h ... go to that word; a write masks as in 01".
+    /// The register of a word in main memory: "Table reads and writes through 10000h ... go to that word; a write masks
+    /// as in 01, a read does not ... answered reads and writes there keep target 5." "translation off does not stop
+    /// register access", and no mode is an exception.
     #[inline]
-    pub(super) fn write_table_word(&mut self, number: usize, data: u32) -> Result<(), Refusal> {
-        let word = if self.wrong(Fault::EntryStoredWhole) { data } else { data & ENTRY_BITS };
-        match self.table_word_address(number) {
-            None => self.table[number] = word,
-            Some(address) => {
-                let reached = self.reach_word(address);
-                self.tell_of_word(number, WordUse::Write, reached.err());
-                let at = reached? as usize;
-                self.memory[at..at + 4].copy_from_slice(&word.to_le_bytes());
+    pub(super) fn word_access(
+        &mut self,
+        number: usize,
+        offset: u32,
+        access: Access,
+        mode: Mode,
+    ) -> Result<Answer, Refusal> {
+        if self.wrong(Fault::TranslationOffStopsRegisters) && !self.translation_on() {
+            return Err(Refusal::TranslationOff);
+        }
+        let result = self.reach_word(number, WordUse::of(access)).map(|address| match access.data {
+            None => self.word_at(address) & if self.wrong(Fault::MemoryWordReadMasked) { ENTRY_BITS } else { u32::MAX },
+            Some(data) => self.store_word(number, address, data),
+        });
+        self.tell_of_word(number, WordUse::of(access), result);
+        if result == Err(Refusal::PageProtected) {
+            if self.wrong(Fault::ProtectedWordSetsError) {
+                self.set_error(access);
+            }
+            let management = matches!(mode, Mode::Processor { management: true, .. });
+            if self.wrong(Fault::ManagementReadsProtectedWords) && management && access.data.is_none() {
+                return Ok(reached(Target::MemoryMapped, offset, self.open_word(number)));
             }
         }
-        Ok(())
+        let word = result?;
+        // "value read, zero-extended (0 for writes)"
+        let value = if access.data.is_none() { word } else { 0 };
+        Ok(match self.wrong(Fault::WordAnsweredAsMemory) {
+            true => reached(Target::Memory, self.word_address(number) as u32, value),
+            false => reached(Target::MemoryMapped, offset, value),
+        })
+    }
+
+    /// "a write masks as in 01": the word as it is stored.
+    #[inline]
+    fn store_word(&mut self, number: usize, address: u32, data: u32) -> u32 {
+        let word = data & if self.wrong(Fault::MemoryWordStoredWhole) { u32::MAX } else { ENTRY_BITS };
+        let at = address as usize;
+        self.memory[at..at + 4].copy_from_slice(&word.to_le_bytes());
+        if self.wrong(Fault::LookupsSeeRegisterWritesOnly) {
+            self.table[number] = word;
+        }
+        word
     }
 
     /// Tells the observer of a word in main memory.
     #[inline]
-    fn tell_of_word(&mut self, number: usize, by: WordUse, refusal: Option<Refusal>) {
-        let Some(address) = self.table_word_address(number) else {
-            return;
-        };
-        self.observer.table_word(TableWord { number, address, by, refusal });
-        if refusal.is_none() {
+    fn tell_of_word(&mut self, number: usize, by: WordUse, result: Result<u32, Refusal>) {
+        let address = self.word_address(number);
+        self.observer.table_word(TableWord { number, address, by, value: result.ok(), refusal: result.err() });
+        if result.is_ok() {
             let (address, write) = (address as u32, by == WordUse::Write);
             self.observer.touched(Touch { address, width: 4, write, protected: self.protected(address) });
         }
+    }
+
+    /// Zeroes the words in main memory that a register write would reach ([`Fault::ResetClearsWords`]).
+    pub(super) fn clear_words(&mut self) {
+        for number in 0..TABLE_WORDS {
+            if let Ok(address) = self.reach_word(number, WordUse::Write) {
+                let word = self.store_word(number, address, 0);
+                self.tell_of_word(number, WordUse::Write, Ok(word));
+            }
+        }
+    }
+
+    /// A word in main memory that is below TOM, protected or not. Only wrong references ask.
+    pub(super) fn open_word(&self, number: usize) -> u32 {
+        self.word_at(self.word_address(number) as u32)
     }
 }

@@ -87,7 +87,11 @@ impl<O: Observer, F: Faults> Gmch<'_, O, F> {
         }
         let offset = self.fenced(offset)?;
         let management = matches!(mode, Mode::Processor { management: true, .. });
-        let address = match self.translate(offset) {
+        let translated = match self.table_in_memory() {
+            false => self.translate::<false>(offset),
+            true => self.translate::<true>(offset),
+        };
+        let address = match translated {
             Err(Refusal::PageProtected) if management && self.wrong(Fault::ManagementExemptInWindow) => {
                 entry_page(self.table_word(offset as usize / 4096)?) + offset % 4096
             }
@@ -124,22 +128,33 @@ impl<O: Observer, F: Faults> Gmch<'_, O, F> {
         self.table_control & 1 != 0
     }
 
-    /// "Graphics offset o reads entry o / 4096". The codes come in the order 3, 7 and 6 of a table word in main memory,
-    /// then the entry's own 4, 5, 7, 6.
+    /// "Graphics offset o reads entry o / 4096". The codes come in the order 3, then the entry's own 4, 5, 7, 6. Between
+    /// them, where the table is in main memory, come 7 and 6 of the entry's word, "after code 3 for a lookup". The home
+    /// is a parameter so that a run asks for it once and not at each step.
     #[inline]
-    pub(super) fn translate(&mut self, offset: u32) -> Result<u32, Refusal> {
+    pub(super) fn translate<const IN_MEMORY: bool>(&mut self, offset: u32) -> Result<u32, Refusal> {
+        let number = offset as usize / 4096;
+        if IN_MEMORY && self.wrong(Fault::WordBeforeTranslationOff) {
+            self.reach_word(number, WordUse::Lookup)?;
+        }
         if !self.translation_on() {
             return Err(Refusal::TranslationOff);
         }
-        let entry = self.read_table_word(offset as usize / 4096, WordUse::Lookup)?;
-        self.translate_by(entry, offset)
+        if !IN_MEMORY {
+            return self.translate_by(self.table[number], offset);
+        }
+        let entry = self.look_up(number);
+        if entry == Err(Refusal::PageProtected) && self.wrong(Fault::EntryBeforeWord) {
+            self.translate_by(self.open_word(number), offset)?;
+        }
+        self.translate_by(entry?, offset)
     }
 
     /// "the result is page start + o mod 4096", by this entry; the codes come in the order 4, 5, 7, 6.
     #[inline]
     pub(super) fn translate_by(&self, entry: u32, offset: u32) -> Result<u32, Refusal> {
         self.check_entry(entry)?;
-        let page = entry_page(entry);
+        let page = if self.wrong(Fault::HighEntryBitsCount) { entry & 0xFFFF_F000 } else { entry_page(entry) };
         let top = if self.wrong(Fault::LastPageRefused) { self.tom - 4096 } else { self.tom };
         if page >= top {
             return Err(Refusal::PageAboveMemory);
@@ -154,7 +169,7 @@ impl<O: Observer, F: Faults> Gmch<'_, O, F> {
     /// Codes 4 and 5: "type 2:1 (00, 11 main memory; 01 display cache), valid 0".
     #[inline]
     fn check_entry(&self, entry: u32) -> Result<(), Refusal> {
-        let invalid = entry & 1 == 0;
+        let invalid = entry & 1 == 0 || entry & 0xC000_0FF8 != 0 && self.wrong(Fault::UnnamedEntryBitsRefused);
         let other_memory = match entry >> 1 & 3 {
             1 | 2 => true,
             3 => self.wrong(Fault::Type11Refused),
