@@ -24,6 +24,8 @@ fn two_runs_that_differ_in_protected_memory_cannot_be_told_apart() {
     assert!(tally.differing_bytes > 0);
     assert!(tally.different_values > 0);
     assert!(tally.landing_writes > 0);
+    assert!(tally.trials.iter().all(|&trials| trials > 0));
     assert!(tally.protected_pages > 0);
+    assert!(tally.protected_words > 0);
     assert!(tally.runs > 0);
 }

@@ -4,12 +4,12 @@ mod common;
 
 use common::compare::{undo, Lists};
 use common::{lists, seed, Coverage, Random, MIB};
-use mitrophel::{call, reference};
+use mitrophel::{call, reference, Board};
 use std::time::Instant;
 
 /// Demand 2 as a test: "Each call is a cold start, replays all records in order and returns 0", and
-/// every answer and every byte of memory is what document 01 says. Every kind, code, target and rule
-/// must have been met.
+/// every answer and every byte of memory is what document 01 and request 10 of document 02 say. On every
+/// board every code must have been met, and so must every kind, target, rule and event.
 #[test]
 fn call_and_reference_agree_on_random_lists() {
     let started = Instant::now();
@@ -77,7 +77,7 @@ fn call_and_reference_agree_on_noise() {
             }
         }
         let (mut answers, mut expected) = (vec![0xA5; records.len()], vec![0x5A; records.len()]);
-        let board = random.below(2);
+        let board = random.below(Board::ALL.len() as u32);
         assert_eq!(call::gmch_replay(board, &mut memory, &records, &mut answers), 0);
         assert_eq!(reference::replay(board, &mut expected_memory, &records, &mut expected), 0);
         assert!(answers == expected, "list {list}");

@@ -1,13 +1,14 @@
-//! Random lists of records that reach the corners of document 01.
+//! Random lists of records that reach the corners of document 01 and of request 10 of document 02.
 //!
 //! A list is made while the reference replays it, so that each record can aim at the state that it
 //! will meet: at the borders of the map as they stand, at entries and fences that are set, at the
 //! words that the ring will fetch. The reference's answers are the list's expected answers.
 
+use super::words::{Event, Meets};
 use super::{Random, Watch};
 use mitrophel::faults::Faultless;
 use mitrophel::reference::{Gmch, Table, TABLE_WORDS};
-use mitrophel::{Answer, Record};
+use mitrophel::{Answer, Board, Record};
 
 const KIB: u32 = 1 << 10;
 const MIB: u32 = 1 << 20;
@@ -49,7 +50,7 @@ pub fn board(random: &mut Random) -> (u32, usize) {
         1 | 2 => 16,
         _ => 8,
     };
-    (random.below(2), tom << 20)
+    (random.below(Board::ALL.len() as u32), tom << 20)
 }
 
 /// A table that a generator can borrow.
@@ -72,7 +73,8 @@ pub struct Generator<'m> {
 impl<'m> Generator<'m> {
     pub fn new(random: Random, board: u32, memory: &'m mut [u8], table: &'m mut Table) -> Generator<'m> {
         table.fill(0);
-        let hub = Gmch::with_faults(board, memory, table, Watch::default(), Faultless).expect("a good board");
+        let watch = Watch { board: board as usize, ..Watch::default() };
+        let hub = Gmch::with_faults(board, memory, table, watch, Faultless).expect("a good board");
         let mut generator =
             Generator { random, hub, records: Vec::new(), answers: Vec::new(), pages: Vec::new(), resets: true };
         for _ in 0..6 {
@@ -97,6 +99,8 @@ impl<'m> Generator<'m> {
     }
 
     fn emit(&mut self, record: Record) {
+        let (tom, usable_top) = (self.hub.tom(), self.hub.usable_top());
+        self.hub.observer().words.meets = Meets { translation_on: self.translation_on(), tom, usable_top };
         let answer = self.hub.answer(&record);
         self.records.push(record);
         self.answers.push(answer);
@@ -115,8 +119,16 @@ impl<'m> Generator<'m> {
         }
         self.set_bases();
         self.enable_device();
+        if self.random.one_in(8) {
+            let device = self.random.below(2);
+            self.config_read(device, 0x00, 4);
+        }
+        if self.random.one_in(4) {
+            self.register_read(0x2020);
+        }
         if !self.random.one_in(10) {
-            self.register_write(0x2020, 4, 1);
+            let control = self.table_control();
+            self.register_write(0x2020, 4, control);
         }
         for _ in 0..4 + self.random.below(12) {
             self.write_entry();
@@ -139,6 +151,9 @@ impl<'m> Generator<'m> {
     fn act(&mut self) {
         if !self.reaches_registers() && self.random.one_in(3) {
             self.repair();
+        }
+        if self.table_in_memory() && self.random.one_in(8) {
+            return self.move_table();
         }
         match self.random.below(66) {
             0..=8 => self.access_window(),
@@ -165,8 +180,8 @@ impl<'m> Generator<'m> {
                 1 => self.set_bases(),
                 2 => self.enable_device(),
                 _ => {
-                    let data = self.random.word();
-                    self.register_write(0x2020, 4, data);
+                    let control = if self.random.one_in(2) { self.random.word() } else { self.table_control() };
+                    self.register_write(0x2020, 4, control);
                 }
             },
             51..=52 => self.access_port(),
@@ -194,7 +209,10 @@ impl<'m> Generator<'m> {
         if !self.reaches_registers() {
             self.set_bases();
         }
-        self.register_write(0x2020, 4, 1);
+        if !self.translation_on() {
+            let control = self.table_control();
+            self.register_write(0x2020, 4, control);
+        }
     }
 
     fn reset(&mut self) {
@@ -202,6 +220,10 @@ impl<'m> Generator<'m> {
             return;
         }
         if self.resets {
+            let words = self.pages.iter().map(|&page| self.hub.table_word(page as usize));
+            if self.table_in_memory() && words.flatten().any(|word| word != 0) {
+                self.hub.observer().coverage.note(Event::ResetLeavesWord);
+            }
             self.emit(Record::reset());
             if !self.random.one_in(4) {
                 self.read_smram();
@@ -483,10 +505,12 @@ impl<'m> Generator<'m> {
     /// the ends of both window sizes.
     fn any_window_page(&mut self) -> u32 {
         let tom = self.hub.tom() / PAGE;
-        match self.random.below(10) {
+        match self.random.below(11) {
             0 => 0xA0 + self.random.below(32),
             1 => tom - 1 - self.random.below(256),
             2 => self.random.pick(&[8190, 8191, 8192, 16382, 16383]),
+            // Their words are the last and the first of a page.
+            10 => self.random.pick(&[1023, 1023, 1024, 2047, 2048]),
             3 => self.random.below(TABLE_WORDS as u32),
             4 => 128 * self.random.below(8) + self.random.below(3),
             _ => self.random.below(24),
@@ -555,12 +579,11 @@ impl<'m> Generator<'m> {
         let run = if self.random.one_in(6) { 1 + self.random.below(6) } else { 1 };
         for _ in 0..run {
             let entry = self.entry();
-            self.register_write(0x1_0000 + 4 * page, 4, entry);
+            self.store_entry(page, entry);
             page = (page + 1) % TABLE_WORDS as u32;
         }
         if self.random.one_in(6) {
-            let base = self.hub.registers_base();
-            self.emit(Record::read(base.wrapping_add(0x1_0000 + 4 * page), 4, false));
+            self.register_read(0x1_0000 + 4 * page);
         }
     }
 
@@ -590,13 +613,144 @@ impl<'m> Generator<'m> {
         for _ in 0..3 {
             self.write_fence();
         }
+        // A private table has no base: any will do.
+        let base = if self.table_in_memory() { self.hub.register(0x2020).unwrap_or(0) } else { 0xFFFF_FFFF };
         if self.random.one_in(2) {
-            self.register_write(0x2020, 4, 0);
+            self.register_write(0x2020, 4, base & !1);
         }
         for _ in 0..3 {
             self.access_window();
         }
-        self.register_write(0x2020, 4, 0xFFFF_FFFF);
+        self.register_write(0x2020, 4, base | 1);
+    }
+
+    // The table in main memory --------------------------------------------------------------------
+
+    fn table_in_memory(&self) -> bool {
+        self.hub.board().table_in_memory()
+    }
+
+    fn translation_on(&self) -> bool {
+        self.hub.register(0x2020).is_some_and(|control| control & 1 != 0)
+    }
+
+    /// 2020h with translation on, and a table that can mostly be used.
+    fn table_control(&mut self) -> u32 {
+        if !self.table_in_memory() {
+            return 1;
+        }
+        let page = self.window_page();
+        let base = if self.random.one_in(4) { self.table_base(page) } else { self.plain_base() };
+        base | 1
+    }
+
+    /// A base with the whole table in ordinary memory above 1 MiB.
+    fn plain_base(&mut self) -> u32 {
+        let room = self.hub.usable_top() - MIB - 64 * KIB;
+        (MIB + self.random.below(room)) & !(PAGE - 1)
+    }
+
+    /// A base anywhere: in each part of the map, at its top, or where this page's word is among the last before a
+    /// border or among the first after it.
+    fn table_base(&mut self, page: u32) -> u32 {
+        let tom = self.hub.tom();
+        let usable = self.hub.usable_top();
+        let tseg = tom - self.hub.smram().tseg_bytes();
+        let base = match self.random.below(16) {
+            0 => self.random.below(0xA_0000),
+            1 => 0xA_0000 + self.random.below(128 * KIB),
+            2 => 0xC_0000 + self.random.below(256 * KIB),
+            3 => usable + self.random.below(tseg - usable),
+            4 => tseg + self.random.below(tom - tseg),
+            // The table ends where memory does.
+            5 => tom - 64 * KIB,
+            6 => self.random.pick(&[0xFFFF_F000, 0xFFFF_0000, 0x8000_0000]),
+            7 => self.random.word(),
+            8 => self.plain_base(),
+            // 0 stands for 4 GiB.
+            _ => {
+                let border = self.random.pick(&[0xA_0000, 0xC_0000, MIB, usable, tseg, tom, tom, 0]);
+                border.wrapping_sub((page / 1024 + self.random.below(2)) * PAGE)
+            }
+        };
+        base & !(PAGE - 1)
+    }
+
+    /// The table somewhere else for a while: accesses through it there, then perhaps back.
+    fn move_table(&mut self) {
+        let before = self.hub.register(0x2020).unwrap_or(0);
+        let page = self.window_page();
+        let on = u32::from(!self.random.one_in(4));
+        let noise = if self.random.one_in(4) { self.random.below(2048) << 1 } else { 0 };
+        let base = self.table_base(page);
+        self.register_write(0x2020, 4, base | noise | on);
+        for _ in 0..2 + self.random.below(4) {
+            match self.random.below(8) {
+                0 | 1 => {
+                    let offset = page * PAGE + self.random.below(PAGE);
+                    self.access(self.hub.window_base().wrapping_add(offset));
+                }
+                2 | 3 => self.access_word(page),
+                4 | 5 => {
+                    let entry = self.entry();
+                    self.store_entry(page, entry);
+                }
+                6 => self.run(),
+                _ => self.fetch_by(page),
+            }
+        }
+        if self.random.one_in(3) {
+            self.read_smram();
+        }
+        if self.random.one_in(2) {
+            self.register_write(0x2020, 4, before);
+        }
+    }
+
+    /// An access to a word's register, or to the word itself where it lies.
+    fn access_word(&mut self, page: u32) {
+        match self.hub.table_word_address(page as usize) {
+            Some(address) if self.random.one_in(4) => self.access(address as u32),
+            _ if self.random.one_in(3) => self.register_read(0x1_0000 + 4 * page),
+            _ => {
+                let offset = 0x1_0000 + 4 * page + if self.random.one_in(3) { self.random.below(4) } else { 0 };
+                self.access(self.hub.registers_base().wrapping_add(offset));
+            }
+        }
+    }
+
+    /// A run whose first fetch looks this page's word up.
+    fn fetch_by(&mut self, page: u32) {
+        self.register_write(0x203C, 4, 1);
+        self.register_write(0x2038, 4, page * PAGE);
+        self.register_write(0x2034, 4, 0);
+        self.register_write(0x2030, 4, 0x20);
+        self.run();
+    }
+
+    /// Stores an entry: through its register or, where its word is in main memory, in one of the other ways there.
+    fn store_entry(&mut self, number: u32, entry: u32) {
+        let address = self.hub.table_word_address(number as usize).and_then(|address| u32::try_from(address).ok());
+        let management = self.random.one_in(8);
+        match (address, self.random.below(8)) {
+            (Some(address), 0) => self.emit(Record::write(address, 4, entry, management)),
+            (Some(address), 1) => self.emit(Record::master_write(address, 4, entry)),
+            (Some(address), 2) => self.store_through_window(address, entry),
+            // A part of the word.
+            (Some(address), 3) => {
+                let (address, width) = self.random.pick(&[(address, 1), (address + 1, 1), (address + 2, 2)]);
+                self.emit(Record::write(address, width, entry >> (8 * (address % 4)), management));
+            }
+            _ => self.register_write(0x1_0000 + 4 * number, 4, entry),
+        }
+    }
+
+    /// Maps the table's own page into the window, and stores an entry there.
+    fn store_through_window(&mut self, address: u32, entry: u32) {
+        let page = self.window_page();
+        self.register_write(0x1_0000 + 4 * page, 4, address & !(PAGE - 1) | 1);
+        let through = self.hub.window_base().wrapping_add(page * PAGE + address % PAGE);
+        self.emit(Record::write(through, 4, entry, false));
     }
 
     // Registers, ring, interrupts ---------------------------------------------------------------
@@ -604,6 +758,11 @@ impl<'m> Generator<'m> {
     fn register_write(&mut self, offset: u32, width: u8, data: u32) {
         let management = self.random.one_in(8);
         self.emit(Record::write(self.hub.registers_base().wrapping_add(offset), width, data, management));
+    }
+
+    fn register_read(&mut self, offset: u32) {
+        let width = if (0x20A0..0x20B0).contains(&offset) { 2 } else { 4 };
+        self.emit(Record::read(self.hub.registers_base().wrapping_add(offset), width, false));
     }
 
     /// A register access that may be wide, narrow, off by some bytes or at an unlisted offset.
@@ -687,7 +846,7 @@ impl<'m> Generator<'m> {
                 _ => self.random.below(self.hub.usable_top()) & !(PAGE - 1) | 1,
             };
             let number = ((start & 0x03FF_F000) + offset) / PAGE % TABLE_WORDS as u32;
-            self.register_write(0x1_0000 + 4 * number, 4, entry);
+            self.store_entry(number, entry);
         }
     }
 
@@ -712,8 +871,7 @@ impl<'m> Generator<'m> {
             // Open the mask, enable, and look.
             self.register_write(0x20A8, 2, 0);
             self.register_write(0x20A0, 2, 2);
-            let base = self.hub.registers_base();
-            self.emit(Record::read(base.wrapping_add(0x20A4), 2, false));
+            self.register_read(0x20A4);
         }
     }
 
@@ -737,9 +895,8 @@ impl<'m> Generator<'m> {
                 self.register_write(0x203C, 4, length);
             }
         }
-        let base = self.hub.registers_base();
         let offset = self.random.pick(&[0x2030, 0x2034, 0x2038, 0x203C]);
-        self.emit(Record::read(base.wrapping_add(offset), 4, false));
+        self.register_read(offset);
     }
 
     /// Puts instructions where the ring will fetch them: directly, by a master or through the window.
@@ -793,10 +950,7 @@ impl<'m> Generator<'m> {
         let noise = self.random.word();
         let data = self.random.pick(&[0, 0, 2, 2, 0xFFFD, 0xFFFF, 0xFFFF_0000, noise]);
         match self.random.below(3) {
-            0 => {
-                let base = self.hub.registers_base();
-                self.emit(Record::read(base.wrapping_add(offset), 2, false));
-            }
+            0 => self.register_read(offset),
             _ => self.register_write(offset, 2, data),
         }
     }

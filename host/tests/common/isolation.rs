@@ -5,19 +5,22 @@
 //! that are protected once the lock is set and that the prefix neither reads nor writes: at the lock
 //! the two memories still differ in exactly those bytes, and in nothing else has the prefix told them
 //! apart. The rest of the list, the body, is demand 3's list. The reference, which replays the first
-//! run, says which accesses land in protected memory.
+//! run, says which accesses land in protected memory. Where the table is in main memory, request 10 of
+//! document 02 has demand 3 read "table words in unprotected memory": these are bytes of unprotected
+//! memory, which is equal at the lock.
 
 use super::compare::{range, undo};
 use super::generate::{board, pristine_memory, table, Generator};
 use super::Random;
 use mitrophel::reference::{Lsmm, Smram, Touch};
-use mitrophel::{record, Answer, Kind, Record};
+use mitrophel::{record, Answer, Board, Kind, Record};
 use std::ops::Range;
 
 /// What the trials met, so that a reader can see that they were not empty.
 #[derive(Clone, Copy, Debug, Default)]
 pub struct Tally {
-    pub trials: u64,
+    /// By board.
+    pub trials: [u64; Board::ALL.len()],
     pub body_records: u64,
     /// Bytes in which the memories differed.
     pub differing_bytes: u64,
@@ -28,6 +31,8 @@ pub struct Tally {
     pub landing_writes: u64,
     /// Refusals with code 6.
     pub protected_pages: u64,
+    /// Uses of a table word that were refused because it is protected.
+    pub protected_words: u64,
     /// Parser runs that completed a step.
     pub runs: u64,
 }
@@ -92,7 +97,7 @@ pub fn two_runs(
             .and_then(|()| trial.check_memory(&memories))
             .map_err(|why| format!("seed {seed}, trial {number}: {why}"))?;
         memories.restore(&trial);
-        tally.trials += 1;
+        tally.trials[board as usize] += 1;
     }
     Ok(tally)
 }
@@ -157,6 +162,7 @@ impl Trial {
         let watch = generator.hub.observer();
         watch.note_reads = false;
         let prefix_writes = watch.writes.len();
+        let prefix_coverage = watch.coverage.clone();
         let mut seen = std::mem::take(&mut watch.reads);
         seen.extend_from_slice(&watch.writes);
 
@@ -167,6 +173,7 @@ impl Trial {
         let watch = std::mem::take(generator.hub.observer());
         let Generator { records, answers, mut random, .. } = generator;
         tally.count_body(&answers[prefix..]);
+        tally.protected_words += watch.coverage.protected_words() - prefix_coverage.protected_words();
         let landing: Vec<bool> =
             (0..records.len()).map(|i| i >= prefix && lands(&records[i], &watch.landings[i])).collect();
         let mut trial = Trial {

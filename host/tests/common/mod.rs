@@ -5,10 +5,12 @@
 pub mod compare;
 pub mod generate;
 pub mod isolation;
+pub mod words;
 
-use mitrophel::reference::{Observer, Rule, Touch};
-use mitrophel::{call, record, reference, Answer, Record};
+use mitrophel::reference::{Observer, Rule, TableWord, Touch};
+use mitrophel::{call, record, reference, Answer, Board, Record, Target};
 use std::fmt;
+use words::{Event, Words};
 
 pub const MIB: usize = 1 << 20;
 
@@ -85,14 +87,23 @@ pub struct Watch {
     /// For each record, where it landed if it is an access that reached memory.
     pub landings: Vec<Option<Touch>>,
     last: Option<Touch>,
+    /// The board's number.
+    pub board: usize,
+    pub words: Words,
 }
 
 impl Observer for Watch {
     fn routed(&mut self, rule: Rule) {
         self.coverage.rules[rule as usize] += 1;
+        self.words.routed(rule);
+    }
+
+    fn table_word(&mut self, word: TableWord) {
+        self.words.table_word(word, &mut self.coverage);
     }
 
     fn touched(&mut self, touch: Touch) {
+        self.words.touched(touch, &mut self.coverage);
         self.last = Some(touch);
         if touch.write {
             self.writes.push(touch);
@@ -103,69 +114,84 @@ impl Observer for Watch {
 
     fn answered(&mut self, record: &Record, answer: &Answer) {
         let landing = self.last.take();
-        self.landings.push(landing.filter(|_| record.kind().is_some_and(|kind| kind.is_access())));
+        // A table word may have been touched last, or only.
+        self.landings.push(landing.filter(|_| answer.target == Target::Memory.number()));
+        self.words.answered();
         self.coverage.kinds[usize::from(record.kind).min(10) % 10] += 1;
-        self.coverage.codes[usize::from(answer.code)] += 1;
+        self.coverage.codes[self.board][usize::from(answer.code)] += 1;
         self.coverage.targets[usize::from(answer.target)] += 1;
     }
 }
 
-/// How often each kind, code, target and rule was seen.
+/// How often each kind, code, target, rule and event was seen.
 #[derive(Clone, Default)]
 pub struct Coverage {
     /// By kind; number 0 counts the records of no kind.
     pub kinds: [u64; 10],
-    pub codes: [u64; 14],
+    /// By board.
+    pub codes: [[u64; 14]; Board::ALL.len()],
     pub targets: [u64; 6],
     pub rules: [u64; Rule::ALL.len()],
+    pub events: [u64; Event::ALL.len()],
 }
 
 impl Coverage {
+    pub fn note(&mut self, event: Event) {
+        self.events[event as usize] += 1;
+    }
+
+    fn counts(&self) -> impl Iterator<Item = &u64> {
+        let codes = self.codes.iter().flatten();
+        self.kinds.iter().chain(codes).chain(&self.targets).chain(&self.rules).chain(&self.events)
+    }
+
+    fn counts_mut(&mut self) -> impl Iterator<Item = &mut u64> {
+        let codes = self.codes.iter_mut().flatten();
+        let counts = self.kinds.iter_mut().chain(codes).chain(&mut self.targets);
+        counts.chain(&mut self.rules).chain(&mut self.events)
+    }
+
+    /// What each of the counts is of.
+    fn names() -> Vec<String> {
+        let mut names: Vec<String> = (0..10).map(|kind| format!("kind {kind}")).collect();
+        names[0] = "no kind".to_string();
+        for board in Board::ALL {
+            names.extend((0..14).map(|code| format!("code {code}, board {board}")));
+        }
+        names.extend((0..6).map(|target| format!("target {target}")));
+        names.extend(Rule::ALL.iter().map(Rule::to_string));
+        names.extend(Event::ALL.iter().map(Event::to_string));
+        names
+    }
+
+    /// Each count with its name. Code 1 is the call's own result and is in no answer.
+    fn named(&self) -> Vec<(String, u64)> {
+        let names = Coverage::names();
+        assert_eq!(names.len(), self.counts().count());
+        let named = names.into_iter().zip(self.counts().copied());
+        named.filter(|(name, _)| !name.starts_with("code 1,")).collect()
+    }
+
     pub fn add(&mut self, other: &Coverage) {
-        let pairs = self.kinds.iter_mut().zip(&other.kinds);
-        let pairs = pairs.chain(self.codes.iter_mut().zip(&other.codes));
-        let pairs = pairs.chain(self.targets.iter_mut().zip(&other.targets));
-        for (own, other) in pairs.chain(self.rules.iter_mut().zip(&other.rules)) {
+        for (own, other) in self.counts_mut().zip(other.counts()) {
             *own += other;
         }
     }
 
-    /// What was never seen. Code 1 is the call's own result and is in no answer.
+    /// How many uses of a table word in main memory were refused because it is protected.
+    pub fn protected_words(&self) -> u64 {
+        Event::PROTECTED.iter().map(|&event| self.events[event as usize]).sum()
+    }
+
+    /// What was never seen.
     pub fn missing(&self) -> Vec<String> {
-        let none = |count: &&u64| **count == 0;
-        let mut missing = Vec::new();
-        for (kind, _) in self.kinds.iter().enumerate().filter(|(_, count)| none(count)) {
-            missing.push(format!("kind {kind}"));
-        }
-        for (code, _) in self.codes.iter().enumerate().filter(|&(code, ref count)| code != 1 && none(count)) {
-            missing.push(format!("code {code}"));
-        }
-        for (target, _) in self.targets.iter().enumerate().filter(|(_, count)| none(count)) {
-            missing.push(format!("target {target}"));
-        }
-        for (rule, _) in Rule::ALL.iter().zip(&self.rules).filter(|(_, count)| none(count)) {
-            missing.push(rule.to_string());
-        }
-        missing
+        self.named().into_iter().filter(|(_, count)| *count == 0).map(|(name, _)| name).collect()
     }
 }
 
 impl fmt::Display for Coverage {
     fn fmt(&self, f: &mut fmt::Formatter<'_>) -> fmt::Result {
-        for (kind, count) in self.kinds.iter().enumerate().skip(1) {
-            writeln!(f, "{count:>10}  kind {kind}")?;
-        }
-        writeln!(f, "{:>10}  no kind", self.kinds[0])?;
-        for (code, count) in self.codes.iter().enumerate().filter(|(code, _)| *code != 1) {
-            writeln!(f, "{count:>10}  code {code}")?;
-        }
-        for (target, count) in self.targets.iter().enumerate() {
-            writeln!(f, "{count:>10}  target {target}")?;
-        }
-        for (rule, count) in Rule::ALL.iter().zip(&self.rules) {
-            writeln!(f, "{count:>10}  {rule}")?;
-        }
-        Ok(())
+        self.named().iter().try_for_each(|(name, count)| writeln!(f, "{count:>10}  {name}"))
     }
 }
 
