@@ -456,9 +456,9 @@ pub enum Refusal {
     EntryNotValid = 4,
     /// Entry type 01 or 10.
     EntryType = 5,
-    /// Entry's page protected.
+    /// Entry's page protected. Also a table word in protected memory, where the table is in main memory.
     PageProtected = 6,
-    /// Entry's page at or above TOM.
+    /// Entry's page at or above TOM. Also a table word at or above TOM, where the table is in main memory.
     PageAboveMemory = 7,
     /// Parser address at or above the window size.
     OutsideWindow = 8,

@@ -7,8 +7,8 @@ mod common;
 
 use common::compare::{undo, Lists};
 use common::generate::MOST_MEMORY;
-use common::{lists, seed};
-use mitrophel::call;
+use common::{lists, seed, Script};
+use mitrophel::{call, record, reference, Board, Record};
 use std::ffi::{c_int, c_long, c_void};
 
 const PAGE: usize = 4096;
@@ -140,13 +140,49 @@ fn the_call_stays_inside_each_buffer() {
     }
 }
 
+/// Request 10 of document 02: the table's words are bytes of memory, up to its very ends and no further. Tables that end
+/// where memory does, that begin there, that run past the end or past 4 GiB, and one that begins where memory does.
+#[test]
+fn a_table_in_memory_stays_inside_memory() {
+    const TOP: u32 = 8 << 20;
+    let mut memory = Guarded::new(TOP as usize);
+    for base in [TOP - 0x1_0000, TOP - 0xF000, TOP - 0x1000, TOP, 0xFFFF_0000, 0xFFFF_F000, 0] {
+        let mut script = Script::new();
+        script.graphics();
+        script.register_write(0x2020, base | 1);
+        // The first and the last word of each page of the table, for the last page of memory and for the first.
+        let words = (0..16).flat_map(|page| [1024 * page, 1024 * page + 1023]);
+        for (number, entry) in words.flat_map(|number| [(number, TOP - 0x1000 + 1), (number, 1)]) {
+            script.entry(number, entry);
+            script.register_read(0x1_0000 + 4 * number);
+            for offset in [0, 0xFFC] {
+                script.window_read(number << 12 | offset, 4);
+                script.push(Record::write(Script::WINDOW + (number << 12 | offset), 4, entry, false));
+            }
+            script.ring(number << 12, 1, 0xFFC, 8);
+            script.run(u32::MAX);
+        }
+        let records = record::encode(&script.records);
+        for board in Board::ALL.map(Board::number) {
+            let (mut expected, mut expected_memory) = (vec![0; records.len()], vec![0; TOP as usize]);
+            assert_eq!(reference::replay(board, &mut expected_memory, &records, &mut expected), 0);
+            memory.whole().fill(0);
+            let mut answers = vec![0xA5; records.len()];
+            assert_eq!(call::gmch_replay(board, memory.whole(), &records, &mut answers), 0);
+            assert!(answers == expected, "board kind {board}, table at {base:X}h: the answers differ");
+            assert!(memory.whole() == expected_memory, "board kind {board}, table at {base:X}h: memory differs");
+        }
+    }
+}
+
 /// The same for arguments that are refused: lengths that are wrong by one must not be believed.
 #[test]
 fn a_refused_call_stays_inside_each_buffer() {
     let mut memory = Guarded::new(8 << 20);
     let mut records = Guarded::new(PAGE);
     let mut answers = Guarded::new(PAGE);
-    for side in [Side::Before, Side::After] {
+    let sides = [Side::Before, Side::After];
+    for (side, board) in sides.into_iter().flat_map(|side| [(side, 0), (side, 2)]) {
         for (memory_length, records_length, answers_length) in [
             ((8 << 20) - 1, 64, 64),
             (0, 64, 64),
@@ -159,7 +195,7 @@ fn a_refused_call_stays_inside_each_buffer() {
         ] {
             records.part(records_length, side).fill(5);
             let result = call::gmch_replay(
-                0,
+                board,
                 memory.part(memory_length, side),
                 records.part(records_length, side),
                 answers.part(answers_length, side),
@@ -176,7 +212,9 @@ fn a_refused_call_stays_inside_each_buffer() {
 #[test]
 fn empty_buffers_are_not_followed() {
     let mut memory = Guarded::new(8 << 20);
-    assert!(call::gmch_replay(0, &mut [], &[], &mut []) == 1);
-    assert!(call::gmch_replay(0, memory.whole(), &[], &mut []) == 0);
+    for board in Board::ALL.map(Board::number) {
+        assert!(call::gmch_replay(board, &mut [], &[], &mut []) == 1);
+        assert!(call::gmch_replay(board, memory.whole(), &[], &mut []) == 0);
+    }
     assert!(memory.whole().iter().all(|&byte| byte == FILL));
 }

@@ -136,12 +136,37 @@ fn memory_of_8_and_of_512_mib_is_good() {
     }
 }
 
-/// "Board kind 0 is 82810, 1 is DC100."
+/// "Board kind 0 is 82810, 1 is DC100." Request 10 of document 02: "Add board kinds 2 (82810) and 3 (DC100)".
+#[test]
+fn board_kinds_0_to_3_are_good() {
+    let records = writes(4);
+    for board in 0..4 {
+        let mut memory = vec![0; 8 * MIB];
+        let mut answers = vec![UNTOUCHED; records.len()];
+        assert_eq!(call::gmch_replay(board, &mut memory, &records, &mut answers), 0, "{board}");
+        assert!(record::decode_answers(&answers).all(|answer| answer.target() == Some(Target::Memory)));
+        assert_eq!(memory[0x1000..0x1004], 0x1234_5678_u32.to_le_bytes());
+        assert_eq!(reference::replay(board, &mut memory, &records, &mut answers), 0, "{board}");
+    }
+}
+
+/// The lengths are asked of each board.
+#[test]
+fn wrong_lengths_are_refused_on_every_board() {
+    let mut memory = marked(8 * MIB);
+    let records = writes(4);
+    for board in 0..4 {
+        assert_refused(board, &mut memory[..8 * MIB - 1], &records, records.len());
+        assert_refused(board, &mut memory, &records[1..], records.len() - 1);
+        assert_refused(board, &mut memory, &records, records.len() - 16);
+    }
+}
+
 #[test]
 fn every_other_board_kind_is_refused() {
     let mut memory = marked(8 * MIB);
     let records = writes(4);
-    for board in [2, 3, 4, 255, 256, 257, 65_536, 1 << 31, u32::MAX] {
+    for board in [4, 5, 6, 7, 8, 255, 256, 257, 258, 259, 65_536, 65_538, 1 << 31, (1 << 31) + 2, u32::MAX] {
         assert_refused(board, &mut memory, &records, records.len());
     }
 }
@@ -151,7 +176,7 @@ fn every_other_board_kind_is_refused() {
 fn everything_wrong_at_once_is_refused() {
     let mut memory = marked(8 * MIB + 1);
     assert_refused(u32::MAX, &mut memory, &writes(65_537)[1..], 5);
-    assert_refused(2, &mut [], &[0], 0);
+    assert_refused(4, &mut [], &[0], 0);
 }
 
 /// The error says which argument the call refused.
@@ -174,10 +199,12 @@ fn a_wrong_argument_is_named() {
 /// "It needs 72 KiB of stack": a thread with little more is enough.
 #[test]
 fn a_call_needs_no_more_stack_than_its_documentation_says() {
-    let call = || {
-        let records = record::encode(&[Record::run(7), Record::read(0x1000, 4, false), Record::reset()]);
-        call::gmch_replay(0, &mut vec![0; 8 * MIB], &records, &mut vec![0; records.len()])
-    };
-    let thread = std::thread::Builder::new().stack_size((72 << 10) + (8 << 10)).spawn(call).expect("a thread");
-    assert_eq!(thread.join().expect("the stack is enough"), 0);
+    for board in 0..4 {
+        let call = move || {
+            let records = record::encode(&[Record::run(7), Record::read(0x1000, 4, false), Record::reset()]);
+            call::gmch_replay(board, &mut vec![0; 8 * MIB], &records, &mut vec![0; records.len()])
+        };
+        let thread = std::thread::Builder::new().stack_size((72 << 10) + (8 << 10)).spawn(call).expect("a thread");
+        assert_eq!(thread.join().expect("the stack is enough"), 0);
+    }
 }

@@ -2,7 +2,7 @@
 //! time the best of many rounds. `MITROPHEL_ROUNDS` sets how many rounds without a better time end a
 //! measurement. Arguments are parts of the names of the loads wanted; without one, all are run.
 
-use mitrophel::{call, record, reference, Kind, Record};
+use mitrophel::{call, record, reference, Board, Kind, Record};
 use std::hint::black_box;
 use std::time::{Duration, Instant};
 
@@ -16,6 +16,11 @@ const WORK: usize = 20_000;
 const WINDOW: u32 = 0xC000_0000;
 const REGISTERS: u32 = 0xF000_0000;
 const PAGE: u32 = 4096;
+/// Where a table in main memory lies: past the pages that the loads map.
+const TABLE: u32 = 7 << 20;
+/// The boards of the loads: one with a private table, and one with its table in main memory.
+const PRIVATE: Board = Board::I82810;
+const MAIN: Board = Board::I82810Main;
 
 /// splitmix64
 struct Random(u64);
@@ -42,6 +47,7 @@ impl Random {
 struct Load {
     name: &'static str,
     unit: &'static str,
+    board: Board,
     memory: fn(&mut Random) -> Vec<u8>,
     records: Vec<Record>,
 }
@@ -56,14 +62,14 @@ fn register(offset: u32, data: u32) -> Record {
 }
 
 /// Graphics on, translation on, and as many pages of the window mapped one after the other from
-/// 1 MiB on, around the memory's end.
-fn setup(pages: u32) -> Vec<Record> {
+/// 1 MiB on, around the memory's end. At most 1,536 pages leave a table in main memory alone.
+fn setup(board: Board, pages: u32) -> Vec<Record> {
     let mut records = Vec::new();
     config(&mut records, 0, 0x70, 1, 0x40);
     config(&mut records, 1, 0x10, 4, WINDOW);
     config(&mut records, 1, 0x14, 4, REGISTERS);
     config(&mut records, 1, 0x04, 1, 0x06);
-    records.push(register(0x2020, 1));
+    records.push(register(0x2020, if board.table_in_memory() { TABLE | 1 } else { 1 }));
     for page in 0..pages {
         let physical = (1 << 20) + page * PAGE % (7 << 20);
         records.push(register(0x1_0000 + 4 * page, physical | 1));
@@ -86,8 +92,8 @@ fn mixed_opcodes(random: &mut Random) -> Vec<u8> {
 }
 
 /// Reads through the window over its first 4 MiB, with these fences.
-fn window_reads(name: &'static str, fences: &[u32], random: &mut Random) -> Load {
-    let mut records = setup(1024);
+fn window_reads(name: &'static str, board: Board, fences: &[u32], random: &mut Random) -> Load {
+    let mut records = setup(board, 1024);
     for (number, fence) in fences.iter().enumerate() {
         records.push(register(0x2000 + 4 * number as u32, *fence));
     }
@@ -95,13 +101,13 @@ fn window_reads(name: &'static str, fences: &[u32], random: &mut Random) -> Load
         let (offset, width) = random.place(4 << 20);
         records.push(Record::read(WINDOW + offset, width, false));
     }
-    Load { name, unit: "record", memory: noise, records }
+    Load { name, unit: "record", board, memory: noise, records }
 }
 
 /// Runs of this budget over a ring of 2 MiB that starts full each time it is empty.
-fn runs(name: &'static str, memory: fn(&mut Random) -> Vec<u8>, budget: u32, count: u32) -> Load {
+fn runs(name: &'static str, board: Board, memory: fn(&mut Random) -> Vec<u8>, budget: u32, count: u32) -> Load {
     const WORDS: u32 = (2 << 20) / 4 - 2;
-    let mut records = setup(512);
+    let mut records = setup(board, 512);
     records.push(register(0x203C, 511 << 12 | 1));
     records.push(register(0x2030, 4 * WORDS));
     let per_filling = WORDS / budget.min(WORDS);
@@ -111,28 +117,28 @@ fn runs(name: &'static str, memory: fn(&mut Random) -> Vec<u8>, budget: u32, cou
         }
         records.push(Record::run(budget));
     }
-    Load { name, unit: "step", memory, records }
+    Load { name, unit: "step", board, memory, records }
 }
 
-fn table_writes(random: &mut Random) -> Load {
-    let mut records = setup(0);
+fn table_writes(name: &'static str, board: Board, random: &mut Random) -> Load {
+    let mut records = setup(board, 0);
     for _ in 0..WORK {
         records.push(register(0x1_0000 + 4 * random.below(16_384), random.below(u32::MAX)));
     }
-    Load { name: "table writes", unit: "record", memory: no_ops, records }
+    Load { name, unit: "record", board, memory: no_ops, records }
 }
 
 fn configuration_writes(random: &mut Random) -> Load {
     // Plain registers of both devices, the window's base and the SMRAM register with graphics on.
     const REGISTERS: [(u32, u32, u8); 6] =
         [(0, 0x92, 2), (0, 0x80, 1), (1, 0x3C, 1), (1, 0x10, 4), (1, 0xE0, 2), (0, 0x70, 1)];
-    let mut records = setup(0);
+    let mut records = setup(PRIVATE, 0);
     while records.len() < WORK {
         let (device, at, width) = REGISTERS[random.below(6) as usize];
         let data = if at == 0x70 { 0x40 | random.below(64) & !2 } else { random.below(u32::MAX) };
         config(&mut records, device, at, width, data);
     }
-    Load { name: "configuration writes", unit: "record", memory: no_ops, records }
+    Load { name: "configuration writes", unit: "record", board: PRIVATE, memory: no_ops, records }
 }
 
 fn plain_access(random: &mut Random, write: bool) -> Load {
@@ -145,12 +151,13 @@ fn plain_access(random: &mut Random, write: bool) -> Load {
             false => Record::read(address, width, false),
         });
     }
-    Load { name: if write { "memory writes" } else { "memory reads" }, unit: "record", memory: noise, records }
+    let name = if write { "memory writes" } else { "memory reads" };
+    Load { name, unit: "record", board: PRIVATE, memory: noise, records }
 }
 
 /// Everything, about as often as each comes in a driver's life.
 fn mixed(random: &mut Random) -> Load {
-    let mut records = setup(1024);
+    let mut records = setup(PRIVATE, 1024);
     records.push(register(0x2000, 0x31));
     records.push(register(0x203C, 511 << 12 | 1));
     while records.len() < WORK {
@@ -172,30 +179,38 @@ fn mixed(random: &mut Random) -> Load {
             _ => config(&mut records, 0, 0x92, 2, random.below(u32::MAX)),
         }
     }
-    Load { name: "mixed list", unit: "record", memory: mixed_opcodes, records }
+    Load { name: "mixed list", unit: "record", board: PRIVATE, memory: mixed_opcodes, records }
 }
 
 fn loads() -> Vec<Load> {
     let random = &mut Random(82_810);
     // Valid fences of 512 KiB and pitch 512 to 2048 over the first 4 MiB.
     let fences: Vec<u32> = (0..8).map(|i| i << 19 | (2 + i % 3) << 4 | 1).collect();
+    let count = WORK as u32;
     vec![
-        window_reads("window reads, no fence", &[], random),
-        window_reads("window reads, one fence of 4 MiB", &[0x321], random),
-        window_reads("window reads, two fences of 2 MiB", &[0x0000_0221, 0x0020_0231], random),
-        window_reads("window reads, eight fences", &fences, random),
-        runs("no-ops, budget 1", no_ops, 1, WORK as u32),
-        runs("no-ops, budget 8", no_ops, 8, WORK as u32),
-        runs("no-ops, whole ring", no_ops, u32::MAX, 2),
-        runs("mixed opcodes, budget 1", mixed_opcodes, 1, WORK as u32),
-        runs("mixed opcodes, budget 8", mixed_opcodes, 8, WORK as u32),
-        runs("mixed opcodes, whole ring", mixed_opcodes, u32::MAX, 2),
-        table_writes(random),
+        window_reads("window reads, no fence", PRIVATE, &[], random),
+        window_reads("window reads, one fence of 4 MiB", PRIVATE, &[0x321], random),
+        window_reads("window reads, two fences of 2 MiB", PRIVATE, &[0x0000_0221, 0x0020_0231], random),
+        window_reads("window reads, eight fences", PRIVATE, &fences, random),
+        runs("no-ops, budget 1", PRIVATE, no_ops, 1, count),
+        runs("no-ops, budget 8", PRIVATE, no_ops, 8, count),
+        runs("no-ops, whole ring", PRIVATE, no_ops, u32::MAX, 2),
+        runs("mixed opcodes, budget 1", PRIVATE, mixed_opcodes, 1, count),
+        runs("mixed opcodes, budget 8", PRIVATE, mixed_opcodes, 8, count),
+        runs("mixed opcodes, whole ring", PRIVATE, mixed_opcodes, u32::MAX, 2),
+        table_writes("table writes", PRIVATE, random),
         configuration_writes(random),
         plain_access(random, false),
         plain_access(random, true),
         mixed(random),
-        Load { name: "no records", unit: "call", memory: no_ops, records: Vec::new() },
+        Load { name: "no records", unit: "call", board: PRIVATE, memory: no_ops, records: Vec::new() },
+        window_reads("window reads, no fence, table in memory", MAIN, &[], random),
+        window_reads("window reads, eight fences, table in memory", MAIN, &fences, random),
+        runs("no-ops, budget 1, table in memory", MAIN, no_ops, 1, count),
+        runs("no-ops, whole ring, table in memory", MAIN, no_ops, u32::MAX, 2),
+        runs("mixed opcodes, budget 1, table in memory", MAIN, mixed_opcodes, 1, count),
+        runs("mixed opcodes, whole ring, table in memory", MAIN, mixed_opcodes, u32::MAX, 2),
+        table_writes("table writes, table in memory", MAIN, random),
     ]
 }
 
@@ -216,6 +231,7 @@ impl Bench {
     /// The least time of each: the proved call's and the reference's. Rounds go on until so many in a
     /// row have brought no better time, or ten times as many in all.
     fn measure(&mut self, load: &Load, caches: Caches) -> (Duration, Duration) {
+        let board = load.board.number();
         let pristine = (load.memory)(&mut Random(1));
         let records = record::encode(&load.records);
         // Both are copies: fresh zeros are all one page until they are written, and reading them cools no cache.
@@ -227,12 +243,12 @@ impl Bench {
         for round in 0..=10 * self.rounds {
             self.prepare(caches, &memory);
             let started = Instant::now();
-            assert_eq!(call::gmch_replay(0, &mut memory, &records, &mut answers), 0);
+            assert_eq!(call::gmch_replay(board, &mut memory, &records, &mut answers), 0);
             let proved = started.elapsed();
 
             self.prepare(caches, &other);
             let started = Instant::now();
-            let result = reference::replay(0, &mut other, &records, &mut other_answers);
+            let result = reference::replay(board, &mut other, &records, &mut other_answers);
             let plain = started.elapsed();
 
             assert_eq!(result, 0);
@@ -276,7 +292,7 @@ fn units(load: &Load) -> u64 {
     let mut memory = (load.memory)(&mut Random(1));
     let records = record::encode(&load.records);
     let mut answers = vec![0; records.len()];
-    reference::replay(0, &mut memory, &records, &mut answers);
+    reference::replay(load.board.number(), &mut memory, &records, &mut answers);
     let runs = load.records.iter().zip(record::decode_answers(&answers));
     runs.filter(|(record, _)| record.kind() == Some(Kind::Run)).map(|(_, answer)| u64::from(answer.count)).sum()
 }
@@ -296,9 +312,9 @@ fn main() {
         EVICTION >> 20
     );
     println!("A load's time includes its setup records. Nanoseconds for each record, parser step or call:\n");
-    println!("{:<34} {:<7} {:>8} {:>8} {:>6}   {:>8} {:>8} {:>6}", "", "", "warm", "", "", "cold", "", "");
+    println!("{:<44} {:<7} {:>8} {:>8} {:>6}   {:>8} {:>8} {:>6}", "", "", "warm", "", "", "cold", "", "");
     println!(
-        "{:<34} {:<7} {:>8} {:>8} {:>6}   {:>8} {:>8} {:>6}",
+        "{:<44} {:<7} {:>8} {:>8} {:>6}   {:>8} {:>8} {:>6}",
         "load", "unit", "proved", "Rust", "ratio", "proved", "Rust", "ratio"
     );
     let wanted: Vec<String> = std::env::args().skip(1).collect();
@@ -306,7 +322,7 @@ fn main() {
         loads().into_iter().filter(|load| wanted.is_empty() || wanted.iter().any(|part| load.name.contains(part)))
     {
         let units = units(&load) as f64;
-        print!("{:<34} {:<7}", load.name, load.unit);
+        print!("{:<44} {:<7}", load.name, load.unit);
         for caches in [Caches::Warm, Caches::Cold] {
             let (proved, plain) = bench.measure(&load, caches);
             let (proved, plain) = (proved.as_nanos() as f64 / units, plain.as_nanos() as f64 / units);
