@@ -220,7 +220,7 @@ impl<'m> Generator<'m> {
             return;
         }
         if self.resets {
-            let words = self.pages.iter().map(|&page| self.hub.table_word(page as usize));
+            let words = self.pages.iter().map(|&page| self.hub.table_word(page as usize % TABLE_WORDS));
             if self.table_in_memory() && words.flatten().any(|word| word != 0) {
                 self.hub.observer().coverage.note(Event::ResetLeavesWord);
             }
@@ -679,7 +679,7 @@ impl<'m> Generator<'m> {
     /// The table somewhere else for a while: accesses through it there, then perhaps back.
     fn move_table(&mut self) {
         let before = self.hub.register(0x2020).unwrap_or(0);
-        let page = self.window_page();
+        let page = self.window_page() % TABLE_WORDS as u32;
         let on = u32::from(!self.random.one_in(4));
         let noise = if self.random.one_in(4) { self.random.below(2048) << 1 } else { 0 };
         let base = self.table_base(page);
