@@ -80,7 +80,7 @@ const USER_INTERRUPT: u16 = 1 << 1;
 
 impl<O: Observer, F: Faults> Gmch<'_, O, F> {
     /// Code 10: "access touches a listed memory-mapped register without being exactly it". Others
-    /// "read 0, ignore writes".
+    /// "read 0, ignore writes". The codes of a table word in main memory come "after code 10 for a register access".
     #[inline]
     pub(super) fn register_access(&mut self, offset: u32, access: Access, mode: Mode) -> Result<Answer, Refusal> {
         let value = match Listed::in_word(offset) {
@@ -91,8 +91,8 @@ impl<O: Observer, F: Faults> Gmch<'_, O, F> {
                     Listed::Entry(i) if self.table_in_memory() => Some(i),
                     _ => None,
                 };
-                if self.wrong(Fault::WordBeforeExactness) {
-                    word.map_or(Ok(0), |i| self.reach_word(i, WordUse::of(access)))?;
+                if let (Some(i), true) = (word, self.wrong(Fault::WordBeforeExactness)) {
+                    self.reach_word(i, WordUse::of(access))?;
                 }
                 if !(exact || inside && self.wrong(Fault::PartOfRegisterAccepted)) {
                     return Err(Refusal::NotExactlyRegister);

@@ -99,7 +99,8 @@ impl<O: Observer, F: Faults> Gmch<'_, O, F> {
 
     /// The physical address of the word at the head; none where the ring is "not enabled (seen before
     /// code 11), or offsets equal". The codes come in the order "11, then empty check, then 8, 3, 4,
-    /// 5, 7, 6". "A step fetches the word at start + offset, unfenced."
+    /// 5, 7, 6", with 7 and 6 of a table word in main memory "after code 3". "A step fetches the word
+    /// at start + offset, unfenced."
     #[inline]
     fn next_word<const IN_MEMORY: bool>(&mut self) -> Result<Option<u32>, Refusal> {
         let Ring { tail, start, .. } = self.ring;
