@@ -51,9 +51,10 @@ fn bash_completes_commands_options_and_values() {
         (&["--v"], &["--version"]),
         (&["help", "au"], &["audit"]),
         (&["replay", "--bo"], &["--board"]),
-        (&["replay", "--board", ""], &["82810", "dc100"]),
-        (&["replay", "--board", "=", "d"], &["dc100"]),
-        (&["replay", "--board", "="], &["82810", "dc100"]),
+        (&["replay", "--board", ""], &["82810", "dc100", "82810-main", "dc100-main"]),
+        (&["replay", "--board", "=", "d"], &["dc100", "dc100-main"]),
+        (&["replay", "--board", "="], &["82810", "dc100", "82810-main", "dc100-main"]),
+        (&["state", "--board", "82810-"], &["82810-main"]),
         (&["audit", "--color", "a"], &["auto", "always"]),
         (&["audit", "night.rec", "--deny", "pro"], &["protected"]),
         (&["map", "--smram", ""], &[]),
@@ -92,6 +93,12 @@ fn every_shell_has_every_command_and_option() {
                 assert!(script.text.contains(&written), "{shell} {command} {option}");
             }
         }
+    }
+    for (shell, boards) in
+        [("zsh", "'--board=:word:("), ("fish", "-l board -r -f -a '"), ("bash", "--board') offered='")]
+    {
+        let boards = format!("{boards}82810 dc100 82810-main dc100-main");
+        assert_eq!(run(&["completion", shell]).text.matches(&boards).count(), 5, "{shell}");
     }
     for words in [&["completion"][..], &["completion", "csh"], &["completion", "bash", "zsh"]] {
         let run = run(words);

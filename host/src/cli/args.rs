@@ -192,10 +192,14 @@ impl Options {
         convert(&text).map(Some).map_err(wrong)
     }
 
-    /// `--board`, the 82810 where none is named.
+    /// `--board`, by its name or its kind's number; the 82810 where none is named.
     pub fn board(&self) -> Result<Board, Failure> {
-        let expected = || Board::ALL.map(Board::name).join(" or ");
-        let board = self.converted("--board", |text| Board::named(text).ok_or_else(expected))?;
+        let numbered = |text: &str| numbers::number(text).ok().and_then(Board::from_number);
+        let known = || Board::ALL.map(|board| format!("{} {board}", board.number())).join(", ");
+        let board = self.converted("--board", |text| {
+            let board = Board::named(text).or_else(|| numbered(text));
+            board.ok_or_else(|| format!("the number or the name of one of {}", known()))
+        })?;
         Ok(board.unwrap_or_default())
     }
 
@@ -252,6 +256,12 @@ mod tests {
         assert_eq!(options.value("--output"), Some(OsStr::new("x")));
         assert_eq!(options.files, ["--text"]);
         assert!(!options.has("--text"));
+        for board in Board::ALL {
+            for word in [board.name().to_string(), board.name().to_uppercase(), board.number().to_string()] {
+                let options = parse(&["--board", &word]).expect("good words");
+                assert_eq!(options.board().expect("a board"), board, "{word}");
+            }
+        }
         let options = parse(&["--deny=6", "--deny", "7"]).expect("good words");
         assert_eq!(options.values("--deny").collect::<Vec<_>>(), ["6", "7"]);
     }

@@ -65,7 +65,9 @@ content; '-' is standard input.
   --csv             print comma-separated values, names in the first line
   --show-protected  show values of memory that is protected at some time of the
                     replay; they are '\u{B7}\u{B7}' otherwise
-  --board NAME      82810 (default) or dc100
+  --board NAME      82810 (default), dc100, 82810-main or dc100-main, or the
+                    kind's number, 0 to 3; those in -main have the translation
+                    table in main memory, at PGTBL_CTL's bits 31:12
   --memory SIZE     main memory: a multiple of 8M, 8M to 512M
                     (default: the image's length, else 8M)
   --image FILE      memory at the start, from address 0; the rest is zero
@@ -170,7 +172,7 @@ Words of memory that is protected at some time are '\u{B7}\u{B7}'. FILE is a tex
 trace or the binary form, told apart by its content; '-' is standard input.
 
   --lspci           configuration space alone, as 'lspci -F' reads it
-  --board NAME      82810 (default) or dc100
+  --board NAME      82810 (default), dc100, 82810-main, dc100-main
   --memory SIZE     main memory: a multiple of 8M, 8M to 512M
                     (default: the image's length, else 8M)
   --image FILE      memory at the start, from address 0; the rest is zero
@@ -192,7 +194,7 @@ management mode, for hub masters, and for graphics through the translation
 table; which ranges are protected. It is the map of SMRAM as given, or as the
 trace or records of FILE leave it ('-': standard input).
 
-  --board NAME         82810 (default) or dc100
+  --board NAME         82810 (default), dc100, 82810-main, dc100-main
   --memory SIZE        main memory: a multiple of 8M, 8M to 512M
                        (default: the image's length, else 8M)
   --image FILE         memory at the start
@@ -228,7 +230,7 @@ terminal.
                     several with commas, or by giving the option again
   --compare         replay by the reference too, and compare every answer and
                     all of memory
-  --board NAME      82810 (default) or dc100
+  --board NAME      82810 (default), dc100, 82810-main, dc100-main
   --memory SIZE     main memory: a multiple of 8M, 8M to 512M
                     (default: the image's length, else 8M)
   --image FILE      memory at the start of every FILE
@@ -260,7 +262,7 @@ is 1.
   --key KEY         a file of 1 to 65,536 bytes, or 'random' (./random is a
                     file); give it twice, what is not given is random
   --show-protected  print the values too; they are shown as dots otherwise
-  --board NAME      82810 (default) or dc100
+  --board NAME      82810 (default), dc100, 82810-main, dc100-main
   --memory SIZE     main memory: a multiple of 8M, 8M to 512M
                     (default: the image's length, else 8M)
   --image FILE      memory at the start, but for the protected bytes
