@@ -5,10 +5,11 @@
 //! 1 while graphics is off, say, changes nothing. Writing and reading a trace follow the same records,
 //! which is why the one undoes the other.
 
-use super::names::Bases;
+use super::names::{self, Bases};
 use crate::board::Board;
 use crate::record::{self, Kind, Record};
 use crate::reference::{Gmch, Lsmm, Table, TABLE_WORDS};
+use std::collections::BTreeSet;
 
 /// What the followed hub stands on. No name depends on the board or on the length of its memory.
 pub struct Ground {
@@ -97,40 +98,77 @@ pub fn holds_secrets(records: &[u8]) -> bool {
     })
 }
 
-/// Places whose values are not for everybody: those that SMRAM protects at some time of a list, on a board with
-/// some length of memory. The TSEG is at the end of memory, whose length is a multiple of 8 MiB and at most
+/// Places whose values are not for everybody: those that SMRAM protects at some time of a list, on a board of some
+/// kind with some length of memory. The TSEG is at the end of memory, whose length is a multiple of 8 MiB and at most
 /// 512 MiB.
-#[derive(Clone, Copy, Debug, Default)]
+#[derive(Clone, Debug, Default)]
 pub struct Guard {
     low: bool,
     /// The largest TSEG.
     tseg: u32,
+    /// Where the list puts the translation table, on a board that has it in main memory: each value of PGTBL_CTL's bits
+    /// 31:12 by which a word of the table may lie in such a place.
+    tables: Vec<u32>,
 }
 
 impl Guard {
-    /// Only configuration writes and resets decide what is protected.
+    /// Configuration writes and resets decide what is protected, PGTBL_CTL where the table is.
     pub fn of(records: &[Record]) -> Guard {
         let mut ground = Ground::new();
         let mut follower = Follower::new(&mut ground);
         let mut guard = Guard::default();
+        let mut tables = BTreeSet::new();
         for record in records {
+            tables.extend(table_put(record, follower.bases()));
             follower.note(record);
             guard.low |= follower.hub.protected(0xA_0000);
             guard.tseg = guard.tseg.max(follower.hub.smram().tseg_bytes());
         }
+        // A table is smaller than such a place, so its first or its last word lies there if any does.
+        let ends = |table| [u64::from(table), u64::from(table) + u64::from(4 * (names::ENTRY_COUNT - 1))];
+        tables.retain(|&table| ends(table).into_iter().any(|word| guard.low(word) || guard.tseg(word)));
+        guard.tables = tables.into_iter().collect();
         guard
     }
 
-    /// Whether what a record writes is left out of a listing: what management mode writes to such a place, and
-    /// what anybody writes to A0000h-BFFFFh while that is open to all.
-    pub fn hides(self, record: &Record, follower: &Follower<'_>) -> bool {
-        const MIB: u32 = 1 << 20;
-        let low = matches!(record.address, 0xA_0000..=0xB_FFFF | 0xFEEA_0000..=0xFEEB_FFFF) && self.low;
-        let tseg = record.address < 512 * MIB && record.address % (8 * MIB) >= 8 * MIB - self.tseg;
-        let open = follower.hub.smram().lsmm() == Lsmm::General;
-        let writes = matches!(record.kind(), Some(Kind::Write | Kind::MasterWrite));
-        writes && (record.is_management() && (low || tseg) || open && low)
+    fn low(&self, address: u64) -> bool {
+        self.low && (0xA_0000..0xC_0000).contains(&address)
     }
+
+    fn tseg(&self, address: u64) -> bool {
+        const MIB: u64 = 1 << 20;
+        address < 512 * MIB && address % (8 * MIB) >= 8 * MIB - u64::from(self.tseg)
+    }
+
+    /// Whether what a record writes is left out of a listing: what management mode writes to such a place, and
+    /// what anybody writes to A0000h-BFFFFh while that is open to all. A write of a table entry is one of its word, too,
+    /// wherever the list puts the table at some time; words in A0000h-BFFFFh are open while that is not protected.
+    pub fn hides(&self, record: &Record, follower: &Follower<'_>) -> bool {
+        let own = match record.address {
+            // The HSEG stands for A0000h to BFFFFh.
+            high @ 0xFEEA_0000..=0xFEEB_FFFF => high - 0xFEEA_0000 + 0xA_0000,
+            address => address,
+        };
+        let hidden = |place: u64, open: bool| {
+            record.is_management() && (self.low(place) || self.tseg(place)) || open && self.low(place)
+        };
+        let entry = follower.bases().register_offset(record.address).and_then(names::entry_at);
+        let by_word = |entry: u32| {
+            let open = !follower.hub.protected(0xA_0000);
+            self.tables.iter().any(|&table| hidden(u64::from(table) + u64::from(4 * entry), open))
+        };
+        match record.kind() {
+            Some(Kind::Write) if entry.is_some_and(by_word) => true,
+            Some(Kind::Write | Kind::MasterWrite) => hidden(own.into(), follower.hub.smram().lsmm() == Lsmm::General),
+            _ => false,
+        }
+    }
+}
+
+/// Where a record puts the translation table, if it writes PGTBL_CTL: "word i is at 2020h bits 31:12 plus 4i".
+fn table_put(record: &Record, bases: Bases) -> Option<u32> {
+    let control = bases.register_offset(record.address) == Some(names::PGTBL_CTL);
+    (control && record.kind() == Some(Kind::Write)).then_some(record.data & 0xFFFF_F000)
 }
 
 #[cfg(test)]

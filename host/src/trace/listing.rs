@@ -133,7 +133,8 @@ impl Lister {
                 Line { taken: 1, text: redacted(record, bases), comment: None }
             } else {
                 let whole = || Line { taken: 1, text: statement(record, bases), comment: comment(record, bases) };
-                let folded = if self.macros { folded(rest, bases) } else { None };
+                let shown = |record: &Record| !guard.hides(record, &follower);
+                let folded = if self.macros { folded(rest, bases, shown) } else { None };
                 folded.unwrap_or_else(whole)
             };
             self.line(&line, out)?;
@@ -159,9 +160,9 @@ struct Line {
     comment: Option<String>,
 }
 
-/// The macro that the next records are, if they are one.
-fn folded(records: &[Record], bases: Bases) -> Option<Line> {
-    config(records).or_else(|| entries(records, bases))
+/// The macro that the next records are, if they are one. It has those alone whose data is shown.
+fn folded(records: &[Record], bases: Bases, shown: impl Fn(&Record) -> bool) -> Option<Line> {
+    config(records).or_else(|| entries(records, bases, shown))
 }
 
 /// `config`: CF8h, then CFCh to CFFh.
@@ -191,9 +192,10 @@ fn selection(record: &Record) -> Option<(usize, u32)> {
 }
 
 /// `entry` and `entries`: valid entries of main memory whose numbers and pages count up together.
-fn entries(records: &[Record], bases: Bases) -> Option<Line> {
+fn entries(records: &[Record], bases: Bases, shown: impl Fn(&Record) -> bool) -> Option<Line> {
     let (first, page) = entry(records.first()?, bases)?;
-    let same = |(n, record): &(u32, &Record)| entry(record, bases) == Some((first + n, page + 4096 * n));
+    let same =
+        |(n, record): &(u32, &Record)| entry(record, bases) == Some((first + n, page + 4096 * n)) && shown(record);
     let taken = (0..names::ENTRY_COUNT).zip(records).take_while(same).count();
     let text = match taken {
         1 => format!("entry {first} {page:X}h"),

@@ -11,6 +11,10 @@ pub const REGISTERS_BYTES: u32 = 512 << 10;
 /// The first table entry's offset among the memory-mapped registers, and one past the last one's.
 const ENTRIES: std::ops::Range<u32> = 0x1_0000..0x2_0000;
 
+/// PGTBL_CTL's offset among the memory-mapped registers: bit 0 has translation on, and on a board whose translation
+/// table is in main memory bits 31:12 are where.
+pub const PGTBL_CTL: u32 = 0x2020;
+
 /// The entries of the translation table.
 pub const ENTRY_COUNT: u32 = (ENTRIES.end - ENTRIES.start) / 4;
 
@@ -111,7 +115,7 @@ pub const MAPPED: &[Register] = &[
     register(0x2014, 4, "FENCE5"),
     register(0x2018, 4, "FENCE6"),
     register(0x201C, 4, "FENCE7"),
-    register(0x2020, 4, "PGTBL_CTL"),
+    register(PGTBL_CTL, 4, "PGTBL_CTL"),
     register(0x2030, 4, "LP_RING_TAIL"),
     register(0x2034, 4, "LP_RING_HEAD"),
     register(0x2038, 4, "LP_RING_START"),
