@@ -3,7 +3,8 @@
 //! A trace is replayed twice, each time with another key in the memory that is protected once SMRAM's lock
 //! is set, and in what management mode writes there. From the lock to the next reset nothing may differ but
 //! the values that management mode reads from that memory. Answers and memory are the proved call's;
-//! registers and table are the reference's, which stands beside it.
+//! registers and a private table are the reference's, which stands beside it. For a table in main memory demand 3
+//! reads "table words in unprotected memory", which are among the unprotected bytes.
 
 mod judge;
 mod runs;
@@ -20,6 +21,7 @@ use judge::{alike_at_lock, forbidden, seen, Difference, Seen, Verdict};
 use mitrophel::call::gmch_replay;
 use mitrophel::record::RECORD_BYTES;
 use mitrophel::trace::REDACTED;
+use mitrophel::{Board, Target};
 use runs::{Machine, Run, Scope};
 use std::ffi::{OsStr, OsString};
 use std::fs::File;
@@ -64,7 +66,7 @@ pub fn run(words: &[OsString]) -> Result<Status, Failure> {
     let scope = Scope::of(&machine, &list)?;
     let runs = [Run::of(&machine, &list, &scope, &keys[0])?, Run::of(&machine, &list, &scope, &keys[1])?];
     alike_at_lock(&list, &scope, &runs)?;
-    let report = Report { list: &list, scope: &scope, runs: &runs, keys: &keys, secrets, style };
+    let report = Report { board, list: &list, scope: &scope, runs: &runs, keys: &keys, secrets, style };
     report.tell(&mut io::BufWriter::new(io::stdout().lock()))
 }
 
@@ -123,6 +125,7 @@ impl Key {
 
 /// Tells what was seen.
 struct Report<'a> {
+    board: Board,
     list: &'a List,
     scope: &'a Scope,
     runs: &'a [Run; 2],
@@ -198,8 +201,11 @@ impl Report<'_> {
     /// What each run answers in the field that differs.
     fn values(&self, seen: &Seen) -> [String; 2] {
         let width = self.runs[0].records[seen.index].width;
+        // Where the two runs reach different places, a table word that differs has named their pages.
+        let page = self.runs[0].answers[seen.index].target() == Some(Target::Memory);
         seen.values.map(|value| match seen.field {
             Field::Value if self.secrets == Secrets::Hidden => REDACTED.to_string(),
+            Field::Address if page && self.secrets == Secrets::Hidden => REDACTED.to_string(),
             Field::Value => numbers::data(value, width),
             Field::Code => format!("code {value}"),
             Field::Target => format!("target {value}"),
@@ -229,9 +235,13 @@ impl Report<'_> {
         };
         let others: usize = self.scope.protected.others(self.runs[0].memory.len()).iter().map(Range::len).sum();
         let unprotected = counted(others as u64, "unprotected byte");
+        let compared = match self.board.table_in_memory() {
+            true => format!("Registers and {unprotected}, the table words among them: equal."),
+            false => format!("Registers, table and {unprotected}: equal."),
+        };
         for text in [
             format!("{records} after the lock, {answers}."),
-            format!("Registers, table and {unprotected}: equal."),
+            compared,
             "Protected bytes: the same ones throughout, changed only where a management-mode write landed.".to_string(),
         ] {
             for line in wrapped(&text, WIDTH) {
@@ -296,7 +306,7 @@ mod tests {
     use super::super::pair::wrong::leaking;
     use super::super::pair::Call;
     use super::*;
-    use mitrophel::{record, Board};
+    use mitrophel::record;
 
     const LEAK: &str = "config write dev0.SMRAM 4Ch\nconfig write dev1.GMADR C0000000h\n\
                         config write dev1.MMADR F0000000h\nconfig write dev1.PCICMD 2\nentry 10 A0000h\n\
@@ -338,7 +348,8 @@ mod tests {
         });
         for (secrets, values) in [(Secrets::Hidden, "·· and ··"), (Secrets::Shown, "4E45504Fh and 54554853h")] {
             let style = Style { colour: false };
-            let report = Report { list: &list, scope: &scope, runs: &runs, keys: &keys, secrets, style };
+            let report =
+                Report { board: Board::I82810, list: &list, scope: &scope, runs: &runs, keys: &keys, secrets, style };
             let expected = format!("leak.trace:8: read4 WINDOW+A000h: the answer's value differs: {values}");
             let mut out = Vec::new();
             let failure = report.tell(&mut out).expect_err("the key was read");

@@ -1,9 +1,10 @@
-//! `explain`: when each code is given, by document 01's table and order, with an example that runs.
+//! `explain`: when each code is given, by document 01's table and order and by the requests of document 02 that are in
+//! force, with an example that runs.
 
 use super::args::{self, Grammar};
 use super::failure::{shown, Failure, Status};
 use super::{names, say, words};
-use mitrophel::Refusal;
+use mitrophel::{Board, Refusal};
 use std::ffi::OsString;
 
 pub const GRAMMAR: Grammar = Grammar { command: "explain", values: &[], switches: &[], files: 0 };
@@ -15,12 +16,16 @@ const WIDTH: usize = 79;
 const ARGUMENTS: &str = "arguments";
 
 /// The order in which the codes are looked at: "13, 2, then routing; then 10, or 9, 3, 4, 5, 7, 6. For the
-/// parser: 11, then empty check, then 8, 3, 4, 5, 7, 6, 12."
-const ORDERS: [(&str, &[u8]); 4] = [
+/// parser: 11, then empty check, then 8, 3, 4, 5, 7, 6, 12." Where the table is in main memory, a word of it gives 7 or 6
+/// "after code 3 for a lookup and after code 10 for a register access, 7 first" (request 10 of document 02).
+const ORDERS: [(&str, &[u8]); 7] = [
     ("at a memory-mapped register", &[13, 2, 10]),
     (WINDOW, &[13, 2, 9, 3, 4, 5, 7, 6]),
     ("any other access", &[13, 2]),
     (PARSER, &[13, 11, 8, 3, 4, 5, 7, 6, 12]),
+    ("table in memory: register", &[13, 2, 10, 7, 6]),
+    ("table in memory: window", &[13, 2, 9, 3, 7, 6, 4, 5, 7, 6]),
+    ("table in memory: parser run", &[13, 11, 8, 3, 7, 6, 4, 5, 7, 6, 12]),
 ];
 
 const WINDOW: &str = "through the window";
@@ -39,90 +44,120 @@ struct Code {
     refusal: Refusal,
     /// When it is given, and what to look at.
     when: &'static str,
-    /// A trace whose last access alone is refused, and so: how it starts, and its own lines. None for code 1.
-    example: Option<(&'static str, &'static str)>,
+    /// None for code 1; of the others the first is on the board that is taken where none is named.
+    examples: &'static [Example],
+}
+
+/// A trace whose last access alone is refused, with the example's code.
+struct Example {
+    board: Board,
+    /// What it starts with.
+    start: &'static str,
+    /// Its own lines.
+    own: &'static str,
+}
+
+const fn example(start: &'static str, own: &'static str) -> Example {
+    Example { board: Board::I82810, start, own }
+}
+
+/// The same on a board whose table is in main memory.
+const fn in_memory(start: &'static str, own: &'static str) -> Example {
+    Example { board: Board::I82810Main, start, own }
 }
 
 const CODES: [Code; 13] = [
     Code {
         refusal: Refusal::Arguments,
-        when: "The call's own result: board kind not 0 or 1; memory no multiple of 8 MiB from 8 to 512 MiB; records not \
+        when: "The call's own result: board kind not 0 to 3; memory no multiple of 8 MiB from 8 to 512 MiB; records not \
                16 bytes each, or more than 65,535; answers not as long as the records. This program makes no such \
                call: it refuses a wrong --board or --memory with exit status 2, and a file that ends within a record \
                or is too long with exit status 3.",
-        example: None,
+        examples: &[],
     },
     Code {
         refusal: Refusal::Width,
         when: "An access, kinds 1 to 7, whose width is not 1, 2 or 4, or whose bytes do not lie in one aligned word of \
                4 bytes. Give it as two accesses.",
-        example: Some(("", "read4 1002h  # 2 bytes in each of two words\n")),
+        examples: &[example("", "read4 1002h  # 2 bytes in each of two words\n")],
     },
     Code {
         refusal: Refusal::TranslationOff,
-        when: "The window or the parser is used while PGTBL_CTL (2020h) bit 0 is 0. It is 0 after a reset.",
-        example: Some((DESK, "entry 0 100000h\nread4 WINDOW+0h\n")),
+        when: "The window or the parser is used while PGTBL_CTL (2020h) bit 0 is 0. It is 0 after a reset. Registers of \
+               the table are reached all the same.",
+        examples: &[example(DESK, "entry 0 100000h\nread4 WINDOW+0h\n")],
     },
     Code {
         refusal: Refusal::EntryNotValid,
         when: "The table entry of the graphics offset, offset / 4096 and after fencing, has bit 0 clear. All entries \
-               have after a reset.",
-        example: Some((DESK, "write PGTBL_CTL 1\nread4 WINDOW+1000h  # entry 1\n")),
+               have after a reset, but in a table in main memory, which a reset leaves as it is.",
+        examples: &[example(DESK, "write PGTBL_CTL 1\nread4 WINDOW+1000h  # entry 1\n")],
     },
     Code {
         refusal: Refusal::EntryType,
         when: "The table entry is valid and its bits 2:1 are 01, display cache, or 10. Main memory is 00 or 11.",
-        example: Some((DESK, "write PGTBL_CTL 1\nwrite GTT[1] 100003h  # valid, type 01\nread4 WINDOW+1000h\n")),
+        examples: &[example(DESK, "write PGTBL_CTL 1\nwrite GTT[1] 100003h  # valid, type 01\nread4 WINDOW+1000h\n")],
     },
     Code {
         refusal: Refusal::PageProtected,
         when: "The table entry names a page of protected memory: A0000h-BFFFFh if SMRAM's LSMM (bits 3:2) is 10 or 11, \
                or if HSEG acts; and the TSEG. Locked or not, and in management mode too. Somebody has aimed the window \
-               or the ring at the key.",
-        example: Some((DESK, "write PGTBL_CTL 1\nentry 1 A0000h\nread4 WINDOW+1000h\n")),
+               or the ring at the key. Where the table is in main memory (boards 82810-main and dc100-main), also: the \
+               entry's own word, at PGTBL_CTL's bits 31:12 + 4 x entry, lies in protected memory. An access to the \
+               entry's register is then refused, too.",
+        examples: &[
+            example(DESK, "write PGTBL_CTL 1\nentry 1 A0000h\nread4 WINDOW+1000h\n"),
+            in_memory(DESK, "write PGTBL_CTL A0001h\nread4 WINDOW+1000h  # the word at A0004h\n"),
+        ],
     },
     Code {
         refusal: Refusal::PageAboveMemory,
-        when: "The table entry names a page at or above the top of memory, which is memory's length.",
-        example: Some((DESK, "write PGTBL_CTL 1\nentry 1 800000h  # memory is 8M\nread4 WINDOW+1000h\n")),
+        when: "The table entry names a page at or above the top of memory, which is memory's length. Where the table is \
+               in main memory (boards 82810-main and dc100-main), also: the entry's own word, at PGTBL_CTL's bits \
+               31:12 + 4 x entry, a sum that does not wrap at 32 bits, lies there. An access to the entry's register is \
+               then refused, too.",
+        examples: &[
+            example(DESK, "write PGTBL_CTL 1\nentry 1 800000h  # memory is 8M\nread4 WINDOW+1000h\n"),
+            in_memory(DESK, "write PGTBL_CTL 800001h  # memory is 8M\nread GTT[1]  # the word at 800004h\n"),
+        ],
     },
     Code {
         refusal: Refusal::OutsideWindow,
         when: "The parser is to fetch at ring start + head offset, and that is not below the window's size: 64 MiB, or \
                32 MiB if device 0's register 72h has bit 0 set.",
-        example: Some((
+        examples: &[example(
             DESK,
             "config write dev0.MISCC 1        # a window of 32 MiB\n\
              write LP_RING_START 2000000h\n\
              write LP_RING_TAIL 8\n\
              write LP_RING_LENGTH 1           # 4 KiB, enabled\n\
              run 1\n",
-        )),
+        )],
     },
     Code {
         refusal: Refusal::FenceIllFormed,
         when: "A processor's access through the window matches a fence, the lowest matching number counting, that has \
                size code 7, pitch code 6 or 7, the walk bit set, or a start that is no multiple of its size. The parser \
                is not fenced.",
-        example: Some((DESK, "write FENCE0 71h  # valid, pitch code 7\nread4 WINDOW+0h\n")),
+        examples: &[example(DESK, "write FENCE0 71h  # valid, pitch code 7\nread4 WINDOW+0h\n")],
     },
     Code {
         refusal: Refusal::NotExactlyRegister,
         when: "An access in the 512 KiB at MMADR touches a listed register and is not exactly that register. Those at \
                20A0h, 20A4h, 20A8h and 20ACh have 2 bytes, all others 4.",
-        example: Some((DESK, "read2 PGTBL_CTL\n")),
+        examples: &[example(DESK, "read2 PGTBL_CTL\n")],
     },
     Code {
         refusal: Refusal::RingOffset,
         when: "A run finds the ring's head or tail offset not below the ring's length. A ring that is not enabled ends \
                the run before that, with code 0; equal offsets end it after that.",
-        example: Some((DESK, "write LP_RING_LENGTH 1  # 4 KiB, enabled\nwrite LP_RING_TAIL 1000h\nrun 1\n")),
+        examples: &[example(DESK, "write LP_RING_LENGTH 1  # 4 KiB, enabled\nwrite LP_RING_TAIL 1000h\nrun 1\n")],
     },
     Code {
         refusal: Refusal::UnknownInstruction,
         when: "The word that the parser fetched has bits 31:29 not zero, or bits 28:23 other than 00h (nothing), 02h \
                (user interrupt) and 04h (flush).",
-        example: Some((
+        examples: &[example(
             DESK,
             "write PGTBL_CTL 1\n\
              entry 0 100000h\n\
@@ -130,14 +165,14 @@ const CODES: [Code; 13] = [
              write LP_RING_LENGTH 1    # 4 KiB, enabled\n\
              write LP_RING_TAIL 8\n\
              run 1\n",
-        )),
+        )],
     },
     Code {
         refusal: Refusal::Layout,
         when: "The record's kind is not 1 to 9; a flag is set that its kind does not have; byte 3 or bytes 12-15 are \
                not zero; a read or reset has data; a run or reset has a width or an address; or an I/O address is above \
                65,535. The list is damaged, or is no list of records.",
-        example: Some(("", "raw 01 04 00 00 00 00 01 00 00 00 00 00 00 00 00 00  # port 10000h\n")),
+        examples: &[example("", "raw 01 04 00 00 00 00 01 00 00 00 00 00 00 00 00 00  # port 10000h\n")],
     },
 ];
 
@@ -232,38 +267,65 @@ impl Code {
     }
 
     fn example(&self) -> String {
-        match self.example {
-            Some((start, own)) => {
-                let code = self.refusal.code();
-                format!("Example, for a shell: the last access is refused {code}.\nmitrophel replay - <<'END'\n{start}{own}END\n")
-            }
-            None => "Example, in C: 4096 bytes are no board's memory.\n\
-                     gmch_replay(0, memory, 4096, records, 16, answers, 16)\n"
+        let code = self.refusal.code();
+        let mut text = match self.examples {
+            [] => "Example, in C: 4096 bytes are no board's memory.\n\
+                   gmch_replay(0, memory, 4096, records, 16, answers, 16)\n"
                 .to_string(),
+            _ => format!("Example, for a shell: the last access is refused {code}.\n"),
+        };
+        for Example { board, start, own } in self.examples {
+            let (note, option) = match board.table_in_memory() {
+                true => ("# The same for a word of a table in main memory.\n", format!(" --board {board}")),
+                false => ("", String::new()),
+            };
+            text.push_str(&format!("{note}mitrophel replay{option} - <<'END'\n{start}{own}END\n"));
         }
+        text
     }
 }
 
 #[cfg(test)]
 mod tests {
+    use super::super::pair::Call;
     use super::super::trace;
     use super::*;
-    use mitrophel::{call, record, replay_records, Board};
+    use mitrophel::call::gmch_replay;
+    use mitrophel::{record, reference};
 
-    /// Every example's last access is refused with its code, and no other access is refused.
+    /// The last access of an example is refused with its code, and no other access is refused.
+    fn check(refusal: Refusal, example: &Example, call: Call) {
+        let Example { board, start, own } = example;
+        let records = trace::assemble(&format!("{start}{own}")).expect("a good trace").records;
+        let mut answers = vec![0; records.len()];
+        assert_eq!(call(board.number(), &mut vec![0; 8 << 20], &records, &mut answers), 0, "{refusal}, board {board}");
+        let mut codes: Vec<u8> = record::decode_answers(&answers).map(|answer| answer.code).collect();
+        assert_eq!(codes.pop(), Some(refusal.code()));
+        assert!(codes.iter().all(|code| *code == 0), "{refusal}, board {board}");
+    }
+
     #[test]
     fn every_example_gives_its_code() {
         for (code, refusal) in CODES.iter().zip(Refusal::ALL) {
             assert_eq!(code.refusal, refusal);
-            let Some((start, own)) = code.example else { continue };
-            let assembled = trace::assemble(&format!("{start}{own}")).expect("a good trace");
-            let records: Vec<_> = record::decode(&assembled.records).collect();
-            let answers = replay_records(Board::I82810, &mut vec![0; 8 << 20], &records).expect("good arguments");
-            let (last, before) = answers.split_last().expect("an access");
-            assert_eq!(last.refusal(), Some(refusal));
-            assert!(before.iter().all(|answer| answer.code == 0), "{refusal}");
+            code.examples.iter().for_each(|example| check(refusal, example, gmch_replay));
+            assert_eq!(code.examples.is_empty(), refusal == Refusal::Arguments);
         }
-        assert_eq!(call::gmch_replay(0, &mut [0; 4096], &[0; 16], &mut [0; 16]), 1);
+        assert_eq!(gmch_replay(0, &mut [0; 4096], &[0; 16], &mut [0; 16]), 1);
+    }
+
+    /// By the reference.
+    #[test]
+    fn an_example_for_each_home_of_the_table_gives_its_code() {
+        for code in &CODES {
+            code.examples.iter().for_each(|example| check(code.refusal, example, reference::replay));
+            let homes: Vec<bool> = code.examples.iter().map(|example| example.board.table_in_memory()).collect();
+            match code.refusal {
+                Refusal::Arguments => assert_eq!(homes, []),
+                Refusal::PageProtected | Refusal::PageAboveMemory => assert_eq!(homes, [false, true]),
+                _ => assert_eq!(homes, [false]),
+            }
+        }
     }
 
     /// Every code of an answer has its place in an order, and no text is wider than a terminal.

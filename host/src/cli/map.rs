@@ -5,10 +5,11 @@ use super::failure::{Failure, Status};
 use super::files::{self, Secrecy, Sink, Source};
 use super::load::{List, Memory};
 use super::style::Style;
-use super::survey::{config_write, Cell, Class, Map, Mapping, Reach, COLUMNS};
+use super::survey::{config_write, Cell, Class, Found, Map, Mapping, Reach, COLUMNS};
 use super::{names, numbers, svg, words};
 use mitrophel::record;
 use mitrophel::reference::Smram;
+use mitrophel::trace::REDACTED;
 use std::ffi::OsString;
 use std::io::{self, Write};
 
@@ -140,24 +141,39 @@ impl Map {
     }
 
     fn print_table(&self, out: &mut impl Write, style: Style) -> io::Result<()> {
-        if self.table.is_empty() {
+        let (mappings, left) = self.table.shown();
+        if mappings.is_empty() {
             return Ok(());
         }
-        let state = if self.translation { "on" } else { "off: every access through it is refused 3" };
+        let state = if self.table.translation { "on" } else { "off: every access through it is refused 3" };
         writeln!(out, "\n{}", style.bold(&format!("Translation table ({state})")))?;
-        for mapping in &self.table {
-            let Mapping { first, last, page, kind, reach } = *mapping;
-            let pages = format!("{page:08X}-{:08X}", mapping.end());
-            let goes = match reach {
-                Reach::Reached => format!("memory {pages}"),
-                Reach::OtherMemory => style.bad(&format!("refused 5: type {kind:02b}")),
-                Reach::AboveMemory => style.bad(&format!("refused 7: {pages}")),
-                Reach::Protected => style.bad(&format!("refused 6: {pages}")),
-            };
-            let window = format!("{:07X}-{:07X}", first * 4096, last * 4096 + 4095);
-            writeln!(out, "  window {window}  {:<21} {goes}", mapping.entries())?;
+        for mapping in mappings {
+            let window = format!("{:07X}-{:07X}", mapping.first * 4096, mapping.last * 4096 + 4095);
+            writeln!(out, "  window {window}  {:<21} {}", mapping.entries(), self.goes(mapping, style))?;
         }
-        Ok(())
+        match left {
+            0 => Ok(()),
+            left => writeln!(out, "  .. and {}", numbers::counted(left, "more word")),
+        }
+    }
+
+    /// Where entries go.
+    fn goes(&self, mapping: &Mapping, style: Style) -> String {
+        let range = |(first, last)| format!("{first:08X}-{last:08X}");
+        let words = self.table.places(mapping).map(range).unwrap_or_default();
+        match mapping.found {
+            Found::Pages { page, kind, reach } => {
+                let pages = range((page.into(), u64::from(page) + 4096 * mapping.count() - 1));
+                match reach {
+                    Reach::Reached => format!("memory {pages}"),
+                    Reach::OtherMemory => style.bad(&format!("refused 5: type {kind:02b}")),
+                    Reach::AboveMemory => style.bad(&format!("refused 7: {pages}")),
+                    Reach::Protected => style.bad(&format!("refused 6: {pages}")),
+                }
+            }
+            Found::Refused(refusal) => style.bad(&format!("refused {}: {words}", refusal.code())),
+            Found::Hidden => format!("{REDACTED} {words}"),
+        }
     }
 }
 

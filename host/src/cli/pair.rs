@@ -5,11 +5,11 @@
 //! memory.
 
 use super::failure::Failure;
-use super::names::Bases;
+use super::names::{self, Bases};
 use super::told;
 use mitrophel::call::gmch_replay;
 use mitrophel::record::{self, RECORD_BYTES};
-use mitrophel::reference::{Gmch, Observer, Rule, Touch, TABLE_WORDS};
+use mitrophel::reference::{Gmch, Observer, Rule, TableWord, Touch, WordUse, TABLE_WORDS};
 use mitrophel::{Answer, Board, Kind, Record, Refusal, Target};
 use std::ops::Range;
 
@@ -25,6 +25,8 @@ pub struct Heard {
     protected: bool,
     /// The last place in memory that it read or wrote.
     last: Option<u32>,
+    /// The last word of a table in main memory that it asked for.
+    word: Option<TableWord>,
 }
 
 impl Observer for Heard {
@@ -35,6 +37,17 @@ impl Observer for Heard {
     fn touched(&mut self, touch: Touch) {
         self.protected |= touch.protected;
         self.last = Some(touch.address);
+    }
+
+    fn table_word(&mut self, word: TableWord) {
+        self.word = Some(word);
+    }
+}
+
+impl Heard {
+    /// The table word in main memory by which the record was to be translated.
+    fn looked_up(&self) -> Option<TableWord> {
+        self.word.filter(|word| word.by == WordUse::Lookup)
     }
 }
 
@@ -54,6 +67,11 @@ pub struct Step<'a, 'm> {
     /// Its value is not for everybody: it is of protected memory, of memory that is guarded, or was to be
     /// written there.
     pub secret: bool,
+    /// A table word of such memory translated it, or was refused as an entry: the page that it names is not for
+    /// everybody.
+    pub secret_page: bool,
+    /// The word of a table in main memory that it asked for last, reached or not.
+    pub word: Option<TableWord>,
     /// What the names stood for when the record came.
     pub bases: Bases,
     /// What the register holds that the record wrote.
@@ -140,16 +158,24 @@ impl Pair {
             let bases = Bases::of(&hub);
             let beside = hub.answer(&record);
             let heard = std::mem::take(hub.observer());
-            let secret = is_secret(&hub, &self.guarded, &record, &answer, &heard);
-            let Heard { rule, protected, .. } = heard;
+            let guard = Guard { hub: &hub, guarded: &self.guarded };
+            let secret = guard.hides_value(&record, &answer, &heard, bases);
+            let secret_word = heard.looked_up().is_some_and(|word| guard.has(word.address));
             if answer != beside {
                 // The proved call may have reached what the reference keeps shut.
-                let leaked = answer.target() == Some(Target::Memory) && hub.protected(answer.address);
-                let hidden = self.hidden || secret || leaked;
-                return Err(different_answers(index, &record, bases, [&answer, &beside], hidden));
+                let leaked = match answer.target() {
+                    Some(Target::Memory) => hub.protected(answer.address),
+                    Some(Target::MemoryMapped) => heard.word.is_some_and(|word| guard.has(word.address)),
+                    _ => false,
+                };
+                let value = self.hidden || secret || leaked;
+                let page = self.hidden && heard.looked_up().is_some() || secret_word;
+                return Err(different_answers(index, &record, bases, [&answer, &beside], Hidden { value, page }));
             }
+            let secret_page = secret_word && names_a_page(&answer, &heard);
+            let Heard { rule, protected, word, .. } = heard;
             let now = register_now(&mut hub, &record, &answer);
-            each(&Step { index, record, answer, rule, protected, secret, bases, now, hub: &hub })?;
+            each(&Step { index, record, answer, rule, protected, secret, secret_page, word, bases, now, hub: &hub })?;
         }
         let seen = look(&hub);
         self.compare_memory()?;
@@ -166,39 +192,86 @@ impl Pair {
     }
 }
 
-/// Whether a record's value is of protected or guarded memory. A write that is refused has a value too, one of
-/// management mode that went elsewhere was meant for it, and the word that the parser does not know is shown.
-fn is_secret(hub: &Hub<'_>, guarded: &[Range<u32>], record: &Record, answer: &Answer, heard: &Heard) -> bool {
-    let guards = |address| hub.protected(address) || guarded.iter().any(|range| range.contains(&address));
-    match record.kind() {
-        Some(Kind::Run) if answer.refusal() != Some(Refusal::UnknownInstruction) => heard.protected,
-        Some(kind) if kind.is_write() && (answer.code != 0 || record.is_management() && heard.last.is_none()) => {
-            let start = match record.address {
-                // The HSEG stands for A0000h to BFFFFh.
-                high @ 0xFEEA_0000..=0xFEEB_FFFF => high - 0xFEEA_0000 + 0xA_0000,
-                address => address,
-            };
-            guards(start) || guards(start.saturating_add(3))
+/// Whether an answer, or what is to be said of it, holds the page that the table word names, or the word itself.
+fn names_a_page(answer: &Answer, heard: &Heard) -> bool {
+    let by_entry = match answer.refusal() {
+        None => answer.target() == Some(Target::Memory),
+        Some(Refusal::EntryNotValid | Refusal::EntryType | Refusal::PageProtected | Refusal::PageAboveMemory) => true,
+        Some(_) => false,
+    };
+    by_entry && heard.word.is_some_and(|word| word.refusal.is_none())
+}
+
+/// Memory whose values are not for everybody: what is protected, and what is guarded.
+struct Guard<'a, 'm> {
+    hub: &'a Hub<'m>,
+    guarded: &'a [Range<u32>],
+}
+
+impl Guard<'_, '_> {
+    /// Whether an address, which may be past 32 bits, is of such memory.
+    fn has(&self, address: u64) -> bool {
+        let guards = |address| self.hub.protected(address) || self.guarded.iter().any(|range| range.contains(&address));
+        u32::try_from(address).is_ok_and(guards)
+    }
+
+    /// Whether a record's value is of such memory. A write that is refused has a value too, one of management mode
+    /// that went elsewhere was meant for it, and the word that the parser does not know is shown.
+    fn hides_value(&self, record: &Record, answer: &Answer, heard: &Heard, bases: Bases) -> bool {
+        match record.kind() {
+            Some(Kind::Run) if answer.refusal() != Some(Refusal::UnknownInstruction) => heard.protected,
+            Some(kind) if kind.is_write() && (answer.code != 0 || record.is_management() && heard.last.is_none()) => {
+                let start = self.meant(record, bases);
+                self.has(start) || self.has(start + 3)
+            }
+            _ => heard.protected || heard.last.is_some_and(|address| self.has(address.into())),
         }
-        _ => heard.protected || heard.last.is_some_and(guards),
+    }
+
+    /// The place that a write was meant for: a table word in main memory, the memory that the HSEG stands for, or its
+    /// own address.
+    fn meant(&self, record: &Record, bases: Bases) -> u64 {
+        let entry = bases.register_offset(record.address).and_then(names::entry_at);
+        let word = entry.and_then(|entry| self.hub.table_word_address(entry as usize));
+        word.unwrap_or(match record.address {
+            // The HSEG stands for A0000h to BFFFFh.
+            high @ 0xFEEA_0000..=0xFEEB_FFFF => u64::from(high - 0xFEEA_0000 + 0xA_0000),
+            address => address.into(),
+        })
     }
 }
 
 const LOUD: &str = "THE PROVED CALL AND THE REFERENCE DISAGREE";
 const ADVICE: &str = "Trust neither answer. Nothing was written. Please report the records with this message.";
 
-/// The two answers, without their values where one may be the key's.
-fn different_answers(index: usize, record: &Record, bases: Bases, both: [&Answer; 2], protected: bool) -> Failure {
-    let shown = both.map(|answer| if protected { Answer { value: 0, ..*answer } } else { *answer });
-    let [proved, beside] = shown.map(|answer| {
+/// What of two answers may be the key's.
+#[derive(Clone, Copy)]
+struct Hidden {
+    value: bool,
+    /// The address, which a table word gave.
+    page: bool,
+}
+
+/// The two answers, without what may be the key's.
+fn different_answers(index: usize, record: &Record, bases: Bases, both: [&Answer; 2], hidden: Hidden) -> Failure {
+    let [proved, beside] = both.map(|answer| {
+        let value = if hidden.value { 0 } else { answer.value };
+        let address = if hidden.page { 0 } else { answer.address };
+        let answer = Answer { value, address, ..*answer };
         let bytes = answer.to_bytes().map(|byte| format!("{byte:02X} "));
         format!("{}({answer})", bytes.concat())
     });
-    let hidden = if protected { "\n  Values of protected memory are shown as 0." } else { "" };
+    let note = match hidden {
+        Hidden { page: true, .. } => {
+            "\n  Values of protected memory, and addresses from a table there, are shown as 0."
+        }
+        Hidden { value: true, .. } => "\n  Values of protected memory are shown as 0.",
+        _ => "",
+    };
     Failure::disagreement(format!(
-        "{LOUD} at record {} of the call: {}\n  proved call {proved}\n  reference   {beside}{hidden}\n{ADVICE}",
+        "{LOUD} at record {} of the call: {}\n  proved call {proved}\n  reference   {beside}{note}\n{ADVICE}",
         index + 1,
-        told::asked(record, bases, protected),
+        told::asked(record, bases, hidden.value),
     ))
 }
 

@@ -232,7 +232,9 @@ struct Guarded {
 
 impl Guarded {
     fn note(&mut self, step: &Step<'_, '_>) {
-        self.answers |= step.secret && step.record.kind().is_some_and(|kind| !kind.is_write());
+        let value = step.secret && step.record.kind().is_some_and(|kind| !kind.is_write());
+        // A refusal's answer holds no address.
+        self.answers |= value || step.secret_page && step.answer.code == 0;
     }
 }
 

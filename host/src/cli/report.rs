@@ -183,12 +183,12 @@ fn fields(entry: &Entry<'_, '_, '_>) -> [Value; FIELDS.len()] {
         answer.refusal().map_or(Value::None, |refusal| text(names::refusal_name(refusal))),
         answer.target().map_or(Value::None, |target| text(target_name(target))),
         Value::Flag(answer.line != 0),
-        Value::Number(answer.address),
+        if told.hidden_page && answer.code == 0 { Value::None } else { Value::Number(answer.address) },
         unless_hidden(answer.value),
         Value::Number(answer.count),
         text(&told.outcome),
         text(&told.reason),
-        Value::Flag(told.hidden),
+        Value::Flag(told.hidden || told.hidden_page),
     ]
 }
 

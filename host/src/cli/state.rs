@@ -1,8 +1,8 @@
 //! `state`: what the records of a list leave in the hub.
 //!
 //! The values are those of the reference, which agrees with the proved call in every answer and in every
-//! byte of memory. No byte of memory is shown that is protected at some time: of the ring's words those that
-//! lie there are left out.
+//! byte of memory. No byte of memory is shown that is protected at some time: of the ring's words and of those of a
+//! translation table in main memory those that lie there are left out.
 
 mod dump;
 mod registers;
@@ -13,11 +13,12 @@ use super::failure::{Failure, Status};
 use super::load::{List, Memory};
 use super::pair::{Hub, Pair};
 use super::style::Style;
-use super::survey::{self, Mapping, Reach};
+use super::survey::{self, Found, Mapping, Reach, Table};
 use super::told::Tone;
 use super::{numbers, say, words};
 use mitrophel::record::RECORD_BYTES;
-use mitrophel::Board;
+use mitrophel::trace::REDACTED;
+use mitrophel::{Board, Refusal};
 use std::ffi::OsString;
 use std::ops::Range;
 
@@ -56,7 +57,7 @@ fn whole(hub: &Hub<'_>, guarded: &[Range<u32>], board: Board, records: usize, st
     memory(&mut page, hub);
     registers::configuration(&mut page, hub, board);
     registers::mapped(&mut page, hub);
-    table(&mut page, hub);
+    table(&mut page, &Table::of(hub, guarded));
     ring::words(&mut page, hub, guarded);
     page.heading("Configuration space, as 'lspci -F' reads it");
     page.text.push_str(dump::devices(hub, board).trim_end());
@@ -104,36 +105,51 @@ fn memory(page: &mut Page, hub: &Hub<'_>) {
     }
 }
 
-/// The valid entries of the translation table.
-fn table(page: &mut Page, hub: &Hub<'_>) {
-    page.heading(match survey::translation_on(hub) {
+/// The valid entries of the translation table, and where it is in main memory.
+fn table(page: &mut Page, table: &Table) {
+    page.heading(match table.translation {
         true => "Translation table",
         false => "Translation table (off: every access through it is refused 3)",
     });
-    let mappings = survey::mappings(hub);
+    let row = |what: &str, range: (u64, u64)| format!("{what:<20}  {:<19}", format!("{:X}h-{:X}h", range.0, range.1));
+    if let Some(home) = table.home() {
+        page.row(&row("in main memory", home), "by PGTBL_CTL's bits 31:12");
+    }
+    let (mappings, left) = table.shown();
     if mappings.is_empty() {
         page.row("no valid entry", "");
     }
-    for mapping in &mappings {
-        let pages = format!("{:X}h-{:X}h", mapping.page, mapping.end());
-        let left = format!("{:<20}  {pages:<19}", mapping.entries());
-        let tone = if mapping.reach == Reach::Reached { Tone::Reached } else { Tone::Refused };
-        page.toned(&left, &reached(mapping), tone);
+    for mapping in mappings {
+        let range = match mapping.found {
+            Found::Pages { page, .. } => Some((page.into(), u64::from(page) + 4096 * mapping.count() - 1)),
+            Found::Refused(_) | Found::Hidden => table.places(mapping),
+        };
+        let (tone, words) = reached(mapping);
+        page.toned(&row(&mapping.entries(), range.unwrap_or_default()), &words, tone);
+    }
+    if left != 0 {
+        page.row(&format!(".. and {}", numbers::counted(left, "more word")), "");
     }
 }
 
 /// What a mapping reaches, or its refusal.
-fn reached(mapping: &Mapping) -> String {
-    let kind = match mapping.kind {
+fn reached(mapping: &Mapping) -> (Tone, String) {
+    let (kind, reach) = match mapping.found {
+        Found::Pages { kind, reach, .. } => (kind, reach),
+        Found::Refused(Refusal::PageProtected) => return (Tone::Refused, "refused 6: in protected memory".to_string()),
+        Found::Refused(_) => return (Tone::Refused, "refused 7: at or above TOM".to_string()),
+        Found::Hidden => return (Tone::Reached, REDACTED.to_string()),
+    };
+    let kind = match kind {
         0b01 => "display cache (type 01)",
         0b10 => "type 10",
         0b11 => "main memory (type 11)",
         _ => "main memory",
     };
-    match mapping.reach {
-        Reach::Reached => kind.to_string(),
-        Reach::OtherMemory => format!("refused 5: {kind}"),
-        Reach::Protected => format!("refused 6: protected {kind}"),
-        Reach::AboveMemory => "refused 7: at or above TOM".to_string(),
+    match reach {
+        Reach::Reached => (Tone::Reached, kind.to_string()),
+        Reach::OtherMemory => (Tone::Refused, format!("refused 5: {kind}")),
+        Reach::Protected => (Tone::Refused, format!("refused 6: protected {kind}")),
+        Reach::AboveMemory => (Tone::Refused, "refused 7: at or above TOM".to_string()),
     }
 }

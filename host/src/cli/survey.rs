@@ -11,8 +11,9 @@ use super::load::{List, Memory};
 use super::pair::{Pair, Step};
 use super::{names, numbers, words};
 use mitrophel::record::{self, MAX_RECORDS, RECORD_BYTES};
-use mitrophel::reference::{Gmch, Observer, Rule, Smram};
+use mitrophel::reference::{Gmch, Observer, Rule, Smram, TABLE_WORDS};
 use mitrophel::{Board, Record, Refusal};
+use std::ops::Range;
 
 /// Where one kind of access goes.
 #[derive(Clone, Debug, PartialEq, Eq)]
@@ -47,30 +48,47 @@ pub struct Row {
     pub name: &'static str,
 }
 
-/// Entries of the table, one after the other, of one type, whose pages count up and are all reached or all
-/// refused for the same reason.
+/// Entries of the table, one after the other, of which the same is to be said.
 #[derive(Clone, Copy, Debug, PartialEq, Eq)]
 pub struct Mapping {
     pub first: u32,
     pub last: u32,
-    pub page: u32,
-    /// "type 2:1 (00, 11 main memory; 01 display cache)"
-    pub kind: u32,
-    pub reach: Reach,
+    pub found: Found,
+}
+
+/// What entries are.
+#[derive(Clone, Copy, Debug, PartialEq, Eq)]
+pub enum Found {
+    /// Valid entries of one type whose pages count up from this one and are all reached or all refused for the same
+    /// reason.
+    Pages {
+        page: u32,
+        /// "type 2:1 (00, 11 main memory; 01 display cache)"
+        kind: u32,
+        reach: Reach,
+    },
+    /// Words in main memory that are refused themselves.
+    Refused(Refusal),
+    /// Words in main memory whose values are not for everybody, whatever they are.
+    Hidden,
 }
 
 impl Mapping {
-    /// `entry 3` or `entries 0..15`
+    /// `entry 3` or `entries 0..15`, and of words that are not looked at `word 3` or `words 0..15`
     pub fn entries(&self) -> String {
+        let (one, many) = match self.found {
+            Found::Pages { .. } => ("entry", "entries"),
+            Found::Refused(_) | Found::Hidden => ("word", "words"),
+        };
         match self.first == self.last {
-            true => format!("entry {}", self.first),
-            false => format!("entries {}..{}", self.first, self.last),
+            true => format!("{one} {}", self.first),
+            false => format!("{many} {}..{}", self.first, self.last),
         }
     }
 
-    /// The address of the last byte that the entries name.
-    pub fn end(&self) -> u32 {
-        self.page + 4096 * (self.last - self.first) + 4095
+    /// How many entries.
+    pub fn count(&self) -> u64 {
+        u64::from(self.last - self.first) + 1
     }
 }
 
@@ -83,13 +101,91 @@ pub enum Reach {
     Protected,
 }
 
+/// The translation table.
+#[derive(Clone, Debug, Default, PartialEq, Eq)]
+pub struct Table {
+    pub translation: bool,
+    /// The first word's address, where the table is in main memory.
+    pub home: Option<u64>,
+    pub mappings: Vec<Mapping>,
+}
+
+/// How many mappings are shown of a table in main memory, whose words may be anything.
+const MOST_MAPPINGS: usize = 64;
+
+impl Table {
+    /// The table of a hub. Values of guarded memory are not for everybody.
+    pub fn of<O: Observer>(hub: &Gmch<'_, O>, guarded: &[Range<u32>]) -> Table {
+        let words = (0..TABLE_WORDS).map(|number| match hub.table_word(number) {
+            _ if hides_word(hub, guarded, number) => Word::Hidden,
+            Ok(word) => Word::Shown(word),
+            Err(refusal) => Word::Refused(refusal),
+        });
+        let mappings = runs(words, |page| {
+            if page >= hub.tom() {
+                Reach::AboveMemory
+            } else if hub.protected(page) {
+                Reach::Protected
+            } else {
+                Reach::Reached
+            }
+        });
+        Table { translation: translation_on(hub), home: hub.table_word_address(0), mappings }
+    }
+
+    /// The mappings that are shown, and how many entries the others have.
+    pub fn shown(&self) -> (&[Mapping], u64) {
+        let most = if self.home.is_some() { MOST_MAPPINGS } else { usize::MAX };
+        let (shown, others) = self.mappings.split_at(most.min(self.mappings.len()));
+        (shown, others.iter().map(Mapping::count).sum())
+    }
+
+    /// Where the words of a mapping lie in main memory, first and last byte.
+    pub fn places(&self, mapping: &Mapping) -> Option<(u64, u64)> {
+        let place = |number: u32| Some(self.home? + 4 * u64::from(number));
+        Some((place(mapping.first)?, place(mapping.last)? + 3))
+    }
+
+    /// Where the whole table lies in main memory, first and last byte.
+    pub fn home(&self) -> Option<(u64, u64)> {
+        self.home.map(|home| (home, home + 4 * TABLE_WORDS as u64 - 1))
+    }
+
+    /// The refusal of every word, where all have the same.
+    pub fn refusal(&self) -> Option<Refusal> {
+        match self.mappings[..] {
+            [Mapping { found: Found::Refused(refusal), .. }] if self.mappings[0].count() == TABLE_WORDS as u64 => {
+                Some(refusal)
+            }
+            _ => None,
+        }
+    }
+
+    /// What the reader of a map is told of a table in main memory.
+    fn line(&self) -> Option<String> {
+        let (first, last) = self.home()?;
+        let all = match self.refusal() {
+            Some(Refusal::PageProtected) => ", protected: every word is refused 6",
+            Some(_) => ", at or above TOM: every word is refused 7",
+            None => "",
+        };
+        Some(format!("Translation table: in main memory, {first:X}h-{last:X}h (PGTBL_CTL){all}."))
+    }
+}
+
+/// Whether a word of the table is reached and lies in guarded memory.
+pub fn hides_word<O: Observer>(hub: &Gmch<'_, O>, guarded: &[Range<u32>], number: usize) -> bool {
+    let place = hub.table_word_address(number).and_then(|address| u32::try_from(address).ok());
+    let hides = place.is_some_and(|address| guarded.iter().any(|range| range.contains(&address)));
+    hides && hub.table_word(number).is_ok()
+}
+
 /// The whole map.
 pub struct Map {
     pub title: String,
     pub lines: Vec<String>,
     pub rows: Vec<Row>,
-    pub table: Vec<Mapping>,
-    pub translation: bool,
+    pub table: Table,
 }
 
 /// Where the map may change, from 0 up.
@@ -162,7 +258,7 @@ impl Map {
     /// The map in force after the list's records.
     pub fn after(board: Board, memory: &Memory, list: &List) -> Result<Map, Failure> {
         let guarded = list.guarded(memory.length());
-        let mut pair = Pair::new(board, [memory.fresh(), memory.fresh()]).guarding(guarded);
+        let mut pair = Pair::new(board, [memory.fresh(), memory.fresh()]).guarding(guarded.clone());
         let setup = last_call(&mut pair, list)?;
         let edges = edges_after(setup, memory.length() as u32);
         let questions = questions(&edges);
@@ -177,7 +273,7 @@ impl Map {
             )));
         }
         let first = setup.len() / RECORD_BYTES;
-        let mut asked = Asked { probes: first + SMRAM_QUESTIONS, edges, ..Asked::default() };
+        let mut asked = Asked { probes: first + SMRAM_QUESTIONS, edges, guarded, ..Asked::default() };
         let answers = pair.replay(&records, |step| {
             asked.note(step, board);
             Ok(())
@@ -203,14 +299,15 @@ struct Asked {
     edges: Vec<u32>,
     /// Records before the first probe.
     probes: usize,
+    /// Memory whose values are not for everybody.
+    guarded: Vec<Range<u32>>,
     rules: Vec<Option<Rule>>,
     /// What graphics meets at the edges that are pages.
     graphics: Vec<u8>,
     usable_top: u32,
     title: String,
     lines: Vec<String>,
-    table: Vec<Mapping>,
-    translation: bool,
+    table: Table,
 }
 
 impl Asked {
@@ -240,8 +337,8 @@ impl Asked {
         } else {
             self.lines.push("Window and registers are off.".to_string());
         }
-        self.translation = translation_on(hub);
-        self.table = mappings(hub);
+        self.table = Table::of(hub, &self.guarded);
+        self.lines.extend(self.table.line());
     }
 
     fn finish(self) -> Map {
@@ -254,7 +351,7 @@ impl Asked {
                 _ => rows.push(row),
             }
         }
-        Map { title: self.title, lines: self.lines, rows, table: self.table, translation: self.translation }
+        Map { title: self.title, lines: self.lines, rows, table: self.table }
     }
 
     fn row(&self, at: usize, first: u32, last: u32) -> Option<Row> {
@@ -331,40 +428,44 @@ pub fn translation_on<O: Observer>(hub: &Gmch<'_, O>) -> bool {
     hub.register(0x2020).is_some_and(|control| control & 1 != 0)
 }
 
-/// The valid entries, in runs.
-pub fn mappings<O: Observer>(hub: &Gmch<'_, O>) -> Vec<Mapping> {
-    runs(hub.table(), |page| {
-        if page >= hub.tom() {
-            Reach::AboveMemory
-        } else if hub.protected(page) {
-            Reach::Protected
-        } else {
-            Reach::Reached
-        }
-    })
+/// A word of the table as a reader is shown it.
+#[derive(Clone, Copy)]
+enum Word {
+    Shown(u32),
+    Refused(Refusal),
+    Hidden,
 }
 
-/// The same of any table, where `reach` says what becomes of a page of main memory.
-fn runs(table: &[u32], reach: impl Fn(u32) -> Reach) -> Vec<Mapping> {
+/// The words in runs, but for those that are not valid; `reach` says what becomes of a page of main memory.
+fn runs(words: impl IntoIterator<Item = Word>, reach: impl Fn(u32) -> Reach) -> Vec<Mapping> {
     let mut mappings: Vec<Mapping> = Vec::new();
-    for (entry, word) in (0..).zip(table.iter().copied()) {
-        if word & 1 == 0 {
-            continue;
-        }
-        let (page, kind) = (words::entry_page(word), word >> 1 & 3);
-        let reach = if matches!(kind, 1 | 2) { Reach::OtherMemory } else { reach(page) };
-        let one = Mapping { first: entry, last: entry, page, kind, reach };
+    for (entry, word) in (0..).zip(words) {
+        let found = match word {
+            Word::Shown(word) if word & 1 == 0 => continue,
+            Word::Shown(word) => {
+                let (page, kind) = (words::entry_page(word), word >> 1 & 3);
+                let reach = if matches!(kind, 1 | 2) { Reach::OtherMemory } else { reach(page) };
+                Found::Pages { page, kind, reach }
+            }
+            Word::Refused(refusal) => Found::Refused(refusal),
+            Word::Hidden => Found::Hidden,
+        };
         match mappings.last_mut() {
-            Some(run) if continues(run, &one) => run.last = entry,
-            _ => mappings.push(one),
+            Some(run) if run.last + 1 == entry && continues(run, found) => run.last = entry,
+            _ => mappings.push(Mapping { first: entry, last: entry, found }),
         }
     }
     mappings
 }
 
-fn continues(run: &Mapping, next: &Mapping) -> bool {
-    let counts_up = next.first == run.last + 1 && next.page == run.page + 4096 * (next.first - run.first);
-    counts_up && next.kind == run.kind && next.reach == run.reach
+/// Whether the entry after a run's last one belongs to it.
+fn continues(run: &Mapping, next: Found) -> bool {
+    match run.found {
+        Found::Pages { page, kind, reach } => {
+            next == Found::Pages { page: page + 4096 * run.count() as u32, kind, reach }
+        }
+        found => next == found,
+    }
 }
 
 /// Replays all calls of a list but the last, whose records are given.
@@ -381,7 +482,7 @@ pub fn last_call<'a>(pair: &mut Pair, list: &'a List) -> Result<&'a [u8], Failur
 mod tests {
     use super::*;
     use mitrophel::call::gmch_replay;
-    use mitrophel::reference::{Observer, TABLE_WORDS};
+    use mitrophel::reference::Observer;
     use mitrophel::{Answer, Target};
 
     #[derive(Default)]
@@ -514,7 +615,8 @@ mod tests {
         table[10] = 0x0080_2003;
         table[11] = 0x0080_4003;
         let reach = |page| if page >= 0x80_0000 { Reach::AboveMemory } else { Reach::Reached };
-        let mapping = |first, last, page, kind, reach| Mapping { first, last, page, kind, reach };
+        let mapping =
+            |first, last, page, kind, reach| Mapping { first, last, found: Found::Pages { page, kind, reach } };
         let expected = [
             mapping(1, 1, 0x10_0000, 0b00, Reach::Reached),
             mapping(2, 2, 0x10_1000, 0b11, Reach::Reached),
@@ -525,6 +627,6 @@ mod tests {
             mapping(9, 10, 0x80_1000, 0b01, Reach::OtherMemory),
             mapping(11, 11, 0x80_4000, 0b01, Reach::OtherMemory),
         ];
-        assert_eq!(runs(&table, reach), expected);
+        assert_eq!(runs(table.map(Word::Shown), reach), expected);
     }
 }

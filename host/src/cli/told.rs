@@ -3,7 +3,7 @@
 use super::names::Bases;
 use super::pair::Step;
 use super::{listing, names, numbers, words};
-use mitrophel::reference::{Fence, Gmch, Lsmm, Observer, Rule};
+use mitrophel::reference::{Fence, Gmch, Lsmm, Observer, Rule, TABLE_WORDS};
 use mitrophel::trace::REDACTED;
 use mitrophel::{Kind, Record, Refusal, Target};
 
@@ -40,14 +40,17 @@ pub struct Told {
     pub line: bool,
     /// Its values are those of protected memory, and left out.
     pub hidden: bool,
+    /// The page that a table word named is, since the word is of protected memory.
+    pub hidden_page: bool,
 }
 
 impl Told {
     pub fn of(step: &Step<'_, '_>, secrets: Secrets) -> Told {
         let hidden = step.secret && secrets == Secrets::Hidden;
-        let (tone, outcome) = outcome(step, hidden);
+        let hidden_page = step.secret_page && secrets == Secrets::Hidden;
+        let (tone, outcome) = outcome(step, hidden, hidden_page);
         let asked = asked(&step.record, step.bases, hidden);
-        Told { tone, asked, outcome, reason: reason(step), line: step.answer.line != 0, hidden }
+        Told { tone, asked, outcome, reason: reason(step), line: step.answer.line != 0, hidden, hidden_page }
     }
 
     /// What an expectation of a trace says of it, with or without the reason.
@@ -71,16 +74,22 @@ pub fn asked(record: &Record, bases: Bases, hidden: bool) -> String {
     }
 }
 
-fn outcome(step: &Step<'_, '_>, hidden: bool) -> (Tone, String) {
+fn outcome(step: &Step<'_, '_>, hidden: bool, hidden_page: bool) -> (Tone, String) {
     let answer = &step.answer;
     let (kind, target) = (step.record.kind(), answer.target());
     if let Some(refusal) = answer.refusal() {
         let end = if has_run(step) { format!(" ({})", run_end(step)) } else { String::new() };
-        return (Tone::Refused, format!("refused {}: {}{end}", refusal.code(), why(step, refusal, hidden)));
+        return (
+            Tone::Refused,
+            format!("refused {}: {}{end}", refusal.code(), why(step, refusal, hidden, hidden_page)),
+        );
     }
     match (kind, target) {
         (Some(Kind::Run), _) => {
             (Tone::Reached, format!("{}, head {:08X}h", numbers::counted(answer.count.into(), "step"), answer.address))
+        }
+        (Some(Kind::Reset), _) if step.hub.board().table_in_memory() => {
+            (Tone::Reached, "registers at their defaults, table words stay".to_string())
         }
         (Some(Kind::Reset), _) => (Tone::Reached, "registers at their defaults, table zeroed".to_string()),
         (_, Some(Target::Hub)) if matches!(step.rule, Some(Rule::TsegError | Rule::HsegError)) => {
@@ -88,15 +97,16 @@ fn outcome(step: &Step<'_, '_>, hidden: bool) -> (Tone, String) {
         }
         (_, Some(Target::Hub)) => (Tone::Passed, "hub".to_string()),
         (_, Some(Target::Vga)) => (Tone::Passed, format!("VGA offset {:X}h", answer.address)),
-        (_, Some(Target::Memory)) => (Tone::Reached, memory(step, hidden)),
-        (_, Some(Target::Register)) => (Tone::Reached, register(step, &config_name(step))),
-        (_, Some(Target::MemoryMapped)) => (Tone::Reached, mapped(step)),
+        (_, Some(Target::Memory)) => (Tone::Reached, memory(step, hidden, hidden_page)),
+        (_, Some(Target::Register)) => (Tone::Reached, register(step, &config_name(step), hidden)),
+        (_, Some(Target::MemoryMapped)) => (Tone::Reached, mapped(step, hidden)),
         _ => (Tone::Passed, answer.to_string()),
     }
 }
 
-fn memory(step: &Step<'_, '_>, hidden: bool) -> String {
-    let (at, width, written) = (step.answer.address, step.record.width, is_write(step));
+fn memory(step: &Step<'_, '_>, hidden: bool, hidden_page: bool) -> String {
+    let (width, written) = (step.record.width, is_write(step));
+    let at = if hidden_page { REDACTED.to_string() } else { format!("{:X}h", step.answer.address) };
     let kept = match width {
         1 => step.record.data & 0xFF,
         2 => step.record.data & 0xFFFF,
@@ -108,7 +118,7 @@ fn memory(step: &Step<'_, '_>, hidden: bool) -> String {
     } else {
         numbers::data(if written { kept } else { step.answer.value }, width)
     };
-    format!("memory {at:X}h {verb} {value}")
+    format!("memory {at} {verb} {value}")
 }
 
 fn is_write(step: &Step<'_, '_>) -> bool {
@@ -116,10 +126,11 @@ fn is_write(step: &Step<'_, '_>) -> bool {
 }
 
 /// A register of this name, with what was read or what it holds now.
-fn register(step: &Step<'_, '_>, name: &str) -> String {
+fn register(step: &Step<'_, '_>, name: &str, hidden: bool) -> String {
+    let shown = |value| if hidden { REDACTED.to_string() } else { numbers::data(value, step.record.width) };
     match step.now {
-        Some(now) => format!("{name} is now {}", numbers::data(now, step.record.width)),
-        None => format!("{name} = {}", numbers::data(step.answer.value, step.record.width)),
+        Some(now) => format!("{name} is now {}", shown(now)),
+        None => format!("{name} = {}", shown(step.answer.value)),
     }
 }
 
@@ -130,17 +141,20 @@ fn config_name(step: &Step<'_, '_>) -> String {
     }
 }
 
-fn mapped(step: &Step<'_, '_>) -> String {
+fn mapped(step: &Step<'_, '_>, hidden: bool) -> String {
     let offset = step.answer.address;
     match names::mapped_at(offset) {
-        Some((name, _, _)) => register(step, &name),
+        Some((name, _, _)) => register(step, &name, hidden),
         None if is_write(step) => format!("MMIO+{offset:X}h is not listed: ignored"),
         None => format!("MMIO+{offset:X}h is not listed: reads 0"),
     }
 }
 
 /// Why a record was refused, with the numbers that decided.
-fn why(step: &Step<'_, '_>, refusal: Refusal, hidden: bool) -> String {
+fn why(step: &Step<'_, '_>, refusal: Refusal, hidden: bool, hidden_page: bool) -> String {
+    if let Some(word) = step.word.filter(|word| word.refusal == Some(refusal)) {
+        return bad_word(step.hub, refusal, word.number, word.address);
+    }
     match refusal {
         Refusal::Layout => words::layout_fault(&step.record),
         Refusal::Width => words::width_fault(&step.record),
@@ -155,7 +169,7 @@ fn why(step: &Step<'_, '_>, refusal: Refusal, hidden: bool) -> String {
         Refusal::UnknownInstruction if hidden => format!("word {REDACTED} is no instruction"),
         Refusal::UnknownInstruction => unknown_instruction(step),
         _ => match graphics_offset(step) {
-            Some(offset) => bad_entry(step.hub, refusal, offset),
+            Some(offset) => bad_entry(step.hub, refusal, offset, hidden_page),
             None => refusal.reason().to_string(),
         },
     }
@@ -218,20 +232,38 @@ fn fetch_offset(step: &Step<'_, '_>) -> u32 {
     ring.start.wrapping_add(ring.head_offset())
 }
 
-/// Why the entry of a graphics offset is refused.
-pub fn bad_entry<O: Observer>(hub: &Gmch<'_, O>, refusal: Refusal, offset: u32) -> String {
+/// Why the entry of a graphics offset is refused, or its word in main memory; `hidden` leaves out what the word says.
+pub fn bad_entry<O: Observer>(hub: &Gmch<'_, O>, refusal: Refusal, offset: u32, hidden: bool) -> String {
     let entry = offset / 4096;
-    let word = hub.table().get(entry as usize).copied().unwrap_or_default();
-    let page = words::entry_page(word);
+    let number = entry as usize;
+    let word = match Some(number).filter(|number| *number < TABLE_WORDS).map(|number| hub.table_word(number)) {
+        Some(Ok(word)) => word,
+        Some(Err(own)) if own == refusal => {
+            return bad_word(hub, refusal, number, hub.table_word_address(number).unwrap_or_default())
+        }
+        _ => 0,
+    };
+    let shown = |text: String| if hidden { REDACTED.to_string() } else { text };
+    let page = || shown(format!("{:X}h", words::entry_page(word)));
     match refusal {
-        Refusal::EntryNotValid => format!("entry {entry}, {word:08X}h, is not valid"),
+        Refusal::EntryNotValid => format!("entry {entry}, {}, is not valid", shown(format!("{word:08X}h"))),
+        Refusal::EntryType if hidden => format!("entry {entry} has type {REDACTED}"),
         Refusal::EntryType if word >> 1 & 3 == 1 => format!("entry {entry} has type 01, display cache"),
         Refusal::EntryType => format!("entry {entry} has type 10"),
-        Refusal::PageProtected => format!("entry {entry}'s page {page:X}h is protected"),
+        Refusal::PageProtected => format!("entry {entry}'s page {} is protected", page()),
         Refusal::PageAboveMemory => {
-            format!("entry {entry}'s page {page:X}h is at or above the top of memory, {:X}h", hub.tom())
+            format!("entry {entry}'s page {} is at or above the top of memory, {:X}h", page(), hub.tom())
         }
         _ => refusal.reason().to_string(),
+    }
+}
+
+/// Why a word of a table in main memory is refused: request 10 of document 02.
+fn bad_word<O: Observer>(hub: &Gmch<'_, O>, refusal: Refusal, number: usize, address: u64) -> String {
+    let word = format!("word {number} of the table, at {address:X}h,");
+    match refusal {
+        Refusal::PageProtected => format!("{word} is protected"),
+        _ => format!("{word} is at or above the top of memory, {:X}h", hub.tom()),
     }
 }
 
@@ -275,7 +307,7 @@ fn reason(step: &Step<'_, '_>) -> String {
         Rule::Taken => "rule 5: taken memory".to_string(),
         Rule::HsegMemory => "rule 6: HSEG, management mode".to_string(),
         Rule::HsegError => "rule 6: HSEG, not management mode".to_string(),
-        Rule::Registers => "rule 7: registers".to_string(),
+        Rule::Registers => registers_reason(step),
         Rule::Window => window_reason(step),
         Rule::Elsewhere => "rule 9: nothing else claims it".to_string(),
         Rule::MasterLow => "hub master by rule 1: below A0000h".to_string(),
@@ -291,6 +323,14 @@ fn compatible(step: &Step<'_, '_>) -> &'static str {
         Lsmm::General => "LSMM 01, general memory",
         Lsmm::ManagementCodeReads => "LSMM 10, management code reads only",
         Lsmm::ManagementAll => "LSMM 11, management mode only",
+    }
+}
+
+/// An answered access to an entry says where its word lies in main memory.
+fn registers_reason(step: &Step<'_, '_>) -> String {
+    match step.word.filter(|_| step.answer.code == 0) {
+        Some(word) => format!("rule 7: registers, word at {:X}h", word.address),
+        None => "rule 7: registers".to_string(),
     }
 }
 

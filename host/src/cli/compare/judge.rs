@@ -5,12 +5,23 @@ use crate::cli::failure::Failure;
 use crate::cli::load::List;
 use mitrophel::Answer;
 
-/// Asks that the two runs come to the lock in the same state. Only the ring parser can have told them apart.
+/// Asks that the two runs come to the lock in the same state, and with the same unprotected memory. Only the ring parser
+/// and a table in main memory can have told them apart.
 pub fn alike_at_lock(list: &List, scope: &Scope, runs: &[Run; 2]) -> Result<(), Failure> {
-    let Some((name, _)) = runs[0].at_lock.difference(&runs[1].at_lock) else { return Ok(()) };
+    let [one, two] = runs;
+    let memories = one.memory_at_lock.as_ref().zip(two.memory_at_lock.as_ref());
+    let before = match memories {
+        None => "the parser ran over bytes that were not yet protected",
+        Some(_) => "the parser ran over bytes that were not yet protected, or the table was there",
+    };
+    let register = one.at_lock.difference(&two.at_lock).map(|(name, _)| name);
+    let byte = || memories.and_then(|(one, two)| scope.protected.difference_outside(one, two));
+    let Some(name) = register.or_else(|| byte().map(|at| format!("the unprotected byte at {at:X}h"))) else {
+        return Ok(());
+    };
     Err(Failure::input(format!(
-        "{}: when the lock is set, {name} depends on the key: before, the parser ran over bytes that were not yet \
-         protected; demand 3 speaks of two runs whose registers are equal at the lock",
+        "{}: when the lock is set, {name} depends on the key: before, {before}; demand 3 speaks of two runs whose \
+         registers and unprotected bytes are equal at the lock",
         list.place(scope.lock)
     )))
 }
@@ -175,6 +186,7 @@ mod tests {
                 at_lock: state.clone(),
                 at_end: state.clone(),
                 kept: vec![0x99; 16],
+                memory_at_lock: None,
                 memory: [[0x11; 8], [key, key, key, key, 0x99, 0x99, 0x99, 0x99], [0x22; 8], [0x99; 8]].concat(),
                 moved: None,
             }

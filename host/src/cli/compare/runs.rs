@@ -154,6 +154,7 @@ impl Scope {
 pub struct State {
     /// Each with its name.
     pub registers: Vec<(String, u32)>,
+    /// Empty where the table is in main memory: its words in unprotected memory are among the unprotected bytes.
     pub table: Vec<u32>,
 }
 
@@ -168,7 +169,8 @@ impl State {
             let named = names::mapped_at(offset).zip(hub.register(offset));
             registers.extend(named.map(|((name, _, _), value)| (name, value)));
         }
-        State { registers, table: hub.table().to_vec() }
+        let table = if hub.board().table_in_memory() { Vec::new() } else { hub.table().to_vec() };
+        State { registers, table }
     }
 
     /// The first register or table word that differs, with both values.
@@ -191,6 +193,9 @@ pub struct Run {
     pub at_end: State,
     /// The protected bytes right after the lock, in order.
     pub kept: Vec<u8>,
+    /// All of memory right after the lock, where it may depend on the key: a table in main memory can have lain in
+    /// the key's bytes, and its entries decide where others go. Private entries come from the list.
+    pub memory_at_lock: Option<Vec<u8>>,
     /// Memory at the end.
     pub memory: Vec<u8>,
     /// The first record after which other bytes are protected than at the lock.
@@ -226,6 +231,7 @@ impl Run {
         if index == scope.lock {
             self.at_lock = State::of(hub);
             self.kept = scope.protected.addresses().map(|address| hub.memory()[address]).collect();
+            self.memory_at_lock = hub.board().table_in_memory().then(|| hub.memory().to_vec());
         }
         if index + 1 == scope.end {
             self.at_end = State::of(hub);

@@ -82,8 +82,11 @@ fn mapped_words(hub: &Hub<'_>, name: &str, value: u32) -> String {
         _ => format!("user interrupt (bit 1) {meaning}"),
     };
     match name {
-        "PGTBL_CTL" if translation_on(hub) => "translation on".to_string(),
-        "PGTBL_CTL" => "translation off".to_string(),
+        "PGTBL_CTL" => {
+            let state = if translation_on(hub) { "translation on" } else { "translation off" };
+            let home = hub.table_word_address(0).map(|home| format!(", table at {home:X}h"));
+            format!("{state}{}", home.unwrap_or_default())
+        }
         "LP_RING_TAIL" => ring_offset(hub, ring.tail),
         "LP_RING_HEAD" => {
             let wraps = numbers::counted(ring.wraps().into(), "wrap");

@@ -3,6 +3,7 @@
 use super::Page;
 use crate::cli::numbers;
 use crate::cli::pair::Hub;
+use crate::cli::survey;
 use crate::cli::told::{self, Tone};
 use mitrophel::trace::REDACTED;
 use mitrophel::Refusal;
@@ -22,6 +23,8 @@ enum Fetched {
     Hidden {
         address: u32,
     },
+    /// A word whose table entry is not for everybody, nor whether there is a word.
+    Unseen,
     /// The table entry tells refusals apart.
     Refused {
         refusal: Refusal,
@@ -96,14 +99,16 @@ fn runs<'a>(hub: &'a Hub<'_>, guarded: &'a [Range<u32>]) -> impl Iterator<Item =
 
 /// What the parser would find at a graphics offset.
 fn fetch(hub: &Hub<'_>, guarded: &[Range<u32>], offset: u32) -> Fetched {
+    let entry = offset / 4096;
     match hub.fetch_address(offset) {
+        Err(refusal @ (Refusal::OutsideWindow | Refusal::TranslationOff)) => Fetched::Refused { refusal, entry: 0 },
+        _ if survey::hides_word(hub, guarded, entry as usize) => Fetched::Unseen,
         Ok(address) if guarded.iter().any(|range| range.contains(&address)) => Fetched::Hidden { address },
         Ok(address) => {
             let bytes = hub.memory().get(address as usize..).and_then(|bytes| bytes.first_chunk());
             Fetched::Word { address, word: bytes.copied().map_or(0, u32::from_le_bytes) }
         }
-        Err(refusal @ (Refusal::OutsideWindow | Refusal::TranslationOff)) => Fetched::Refused { refusal, entry: 0 },
-        Err(refusal) => Fetched::Refused { refusal, entry: offset / 4096 },
+        Err(refusal) => Fetched::Refused { refusal, entry },
     }
 }
 
@@ -111,8 +116,9 @@ fn line(page: &mut Page, hub: &Hub<'_>, run: &Run) {
     let (address, (tone, text)) = match run.first {
         Fetched::Word { address, word } => (format!("{address:X}h"), instruction(word)),
         Fetched::Hidden { address } => (format!("{address:X}h"), (Tone::Reached, REDACTED.to_string())),
+        Fetched::Unseen => (REDACTED.to_string(), (Tone::Reached, REDACTED.to_string())),
         Fetched::Refused { refusal, .. } => {
-            let why = told::bad_entry(hub, refusal, hub.ring().start + run.offset);
+            let why = told::bad_entry(hub, refusal, hub.ring().start + run.offset, false);
             (String::new(), (Tone::Refused, format!("refused {}: {why}", refusal.code())))
         }
     };
