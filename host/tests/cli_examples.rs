@@ -4,7 +4,7 @@
 
 mod cli;
 
-use cli::{example, examples, folder, run, run_with, word, DONE};
+use cli::{example, examples, folder, run, run_with, word, DONE, UNMET};
 use mitrophel::{record, Answer, Kind, Record};
 use std::fs;
 use std::path::{Path, PathBuf};
@@ -39,6 +39,7 @@ samples! {
     fault_of_the_third_model_step_count_with_a_key_of_no_ops: "fault-3-step-count-no-ops",
     fault_of_the_third_model_step_count_with_a_key_of_interrupts: "fault-3-step-count-interrupts",
     request_2_cheaper_fences: "request-2-cheaper-fences",
+    request_10_table_in_main_memory: "request-10-table-in-main-memory",
     the_desk_of_the_demo: "desk",
 }
 
@@ -160,6 +161,28 @@ fn two_keys_differ_only_in_what_management_mode_writes_and_reads() {
         let counts = |answers: &[Answer]| answers.iter().map(|answer| answer.count).collect::<Vec<_>>();
         assert_eq!(counts(&first), counts(&second));
         assert!(counts(&first).contains(&1024));
+    }
+}
+
+/// Request 10 of document 02: "Add board kinds 2 (82810) and 3 (DC100)". They differ in their ids alone, and kind 0 does
+/// what document 01 says, table and all.
+#[test]
+fn the_boards_with_the_table_in_main_memory_differ_in_their_ids() {
+    let trace = examples().join("request-10-table-in-main-memory.trace");
+    let text = fs::read_to_string(&trace).expect("a trace");
+    let check = |board: &str, text: &str| run_with(&["replay", "--check", "--board", board, "-"], text.as_bytes());
+    let dc100 = text.replace("dev0.DID = 7120h", "dev0.DID = 7122h").replace("dev1.DID = 7121h", "dev1.DID = 7123h");
+    for (board, text) in [("82810-main", &text), ("dc100-main", &dc100), ("2", &text), ("3", &dc100)] {
+        let run = check(board, text);
+        assert_eq!((run.status, run.errors.as_str()), (DONE, ""), "{board}: {}", run.text);
+    }
+    assert_eq!(check("dc100-main", &text).text.matches("\n+ ").count(), 2);
+    let private = check("82810", &text);
+    assert_eq!((private.status, private.errors.as_str()), (UNMET, ""));
+    for part in
+        ["+ memory 200048h = 00000000h (rule 4: below U, 680000h)\n", "+ registers at their defaults, table zeroed\n"]
+    {
+        assert!(private.text.contains(part), "{part}\n{}", private.text);
     }
 }
 

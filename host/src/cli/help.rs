@@ -155,9 +155,10 @@ breaks the layout becomes a line of raw bytes.
                         some time; it is '\u{B7}\u{B7}' otherwise
 
 With --show-protected 'mitrophel asm' gives the same bytes back for every list,
-and without it for every list that has no such write: of management mode, or of
-anybody while A0000h-BFFFFh is open. Comments say what a line shows alone: a
-value as it is written, whether or not it gets there.
+and without it for every list that has no such write: of management mode, of
+anybody while A0000h-BFFFFh is open, or of a table entry whose word is there on
+some board. Comments say what a line shows alone: a value as it is written,
+whether or not it gets there.
 
 Example:
   mitrophel asm desk.trace -o desk.rec && mitrophel disasm desk.rec
@@ -168,8 +169,9 @@ Usage: mitrophel state [OPTION].. FILE
 Replay the records of FILE from a cold start and show what they leave: the
 registers by name with their fields in words, the valid entries of the
 translation table, the ring's words from head to tail, configuration space.
-Words of memory that is protected at some time are '\u{B7}\u{B7}'. FILE is a text
-trace or the binary form, told apart by its content; '-' is standard input.
+Words of memory that is protected at some time are '\u{B7}\u{B7}', those of a table
+in main memory too. FILE is a text trace or the binary form, told apart by its
+content; '-' is standard input.
 
   --lspci           configuration space alone, as 'lspci -F' reads it
   --board NAME      82810 (default), dc100, 82810-main, dc100-main
@@ -257,7 +259,7 @@ another key in the memory that is protected once SMRAM's lock is set, and show
 side by side what differs. After the lock only values that management mode
 reads from that memory may differ. If anything else does, an answer, a
 register, a table word, an unprotected byte, it is named, and the exit status
-is 1.
+is 1. Words of a table in main memory count where they are unprotected.
 
   --key KEY         a file of 1 to 65,536 bytes, or 'random' (./random is a
                     file); give it twice, what is not given is random
