@@ -257,6 +257,125 @@ fn values_that_were_refused_by_protected_memory_are_not_shown() {
     }
 }
 
+/// The table in main memory, over the key and past the top: request 10 of document 02.
+const TABLE: &str = "\
+config write dev0.SMRAM 4Ch
+config write dev1.GMADR C0000000h
+config write dev1.MMADR F0000000h
+config write dev1.PCICMD 2
+write PGTBL_CTL 200001h
+entry 18 100000h
+";
+
+/// A word's own refusal is told from its entry's.
+#[test]
+fn a_word_of_a_table_in_main_memory_is_told_with_its_place() {
+    let accesses = "read GTT[18] #> GTT[18] = 00100001h (rule 7: registers, word at 200048h)
+smm write GTT[18] FFFFFFFFh #> GTT[18] is now 3FFFF007h (rule 7: registers, word at 200048h)
+read4 WINDOW+12000h #> refused 7: entry 18's page 3FFFF000h is at or above the top of memory, 800000h
+write GTT[18] A0001h #> GTT[18] is now 000A0001h
+read4 WINDOW+12000h #> refused 6: entry 18's page A0000h is protected
+read4 WINDOW+0 #> refused 4: entry 0, 00000000h, is not valid
+write4 200000h C5678FFEh
+read4 WINDOW+0 #> refused 4: entry 0, C5678FFEh, is not valid
+read2 GTT[18] #> refused 10: 2 bytes at offset 10048h, not GTT[18] as it is, 4 bytes at 10048h (rule 7: registers)
+write PGTBL_CTL A0001h #> PGTBL_CTL is now 000A0001h (rule 7: registers)
+read GTT[18] #> refused 6: word 18 of the table, at A0048h, is protected (rule 7: registers)
+smm fetch4 WINDOW+12000h #> refused 6: word 18 of the table, at A0048h, is protected (rule 8: window offset 12000h)
+write LP_RING_START 12000h
+write LP_RING_LENGTH 1
+write LP_RING_TAIL 8
+run 3 #> refused 6: word 18 of the table, at A0048h, is protected (after 0 steps, head 00000000h)
+write PGTBL_CTL 800001h
+write GTT[18] 0
+    #> refused 7: word 18 of the table, at 800048h, is at or above the top of memory, 800000h (rule 7: registers)
+read4 WINDOW+12000h #> refused 7: word 18 of the table, at 800048h, is at or above the top of memory, 800000h
+run 3
+    #> refused 7: word 18 of the table, at 800048h, is at or above the top of memory, 800000h (after 0 steps, head 00000000h)
+write FENCE0 31h
+read4 WINDOW+2BCh #> refused 7: word 2 of the table, at 800008h, is at or above the top of memory, 800000h
+reset #> registers at their defaults, table words stay
+";
+    let trace = format!("{TABLE}{accesses}");
+    for board in ["82810-main", "3"] {
+        let run = run_with(&["replay", "--check", "--board", board, "-"], trace.as_bytes());
+        assert_eq!((run.status, run.errors.as_str()), (DONE, ""), "{}", run.text);
+        let refused = run_with(&["replay", "--only", "6,7", "--board", board, "-"], trace.as_bytes());
+        assert_eq!(refused.text.lines().count(), 9, "{}", refused.text);
+    }
+}
+
+/// Of an entry in memory that is protected at some time, neither the word nor the page that it names is shown.
+#[test]
+fn entries_in_memory_that_is_protected_at_some_time_are_not_shown() {
+    let key = "config write dev0.SMRAM 44h\nword A0000h 5678001h 345001h 5678000h 5678003h A0001h\n";
+    let table = "config write dev1.GMADR C0000000h\nconfig write dev1.MMADR F0000000h\nconfig write dev1.PCICMD 2\n\
+                 write PGTBL_CTL A0001h\n";
+    let accesses = "read GTT[0]\nwrite GTT[9] 5678001h\nread4 WINDOW+0\nread4 WINDOW+1ABCh\nwrite4 WINDOW+1ABCh 7\n\
+                    read4 WINDOW+2000h\nread4 WINDOW+3000h\nread4 WINDOW+4000h\nwrite2 GTT[0] 5678h\n\
+                    write LP_RING_START 2000h\nwrite LP_RING_LENGTH 1\nwrite LP_RING_TAIL 8\nrun 1\n";
+    let locked = "config write dev0.SMRAM 4Eh\nwrite GTT[7] 5678001h\n";
+    let open = format!("{key}{table}{accesses}");
+    let trace = format!("{open}{locked}");
+    for form in [&[][..], &["--json"], &["--csv"], &["--lines"]] {
+        let words = [&["replay", "--board=2", "-"], form].concat();
+        let hidden = run_with(&words, trace.as_bytes());
+        assert_eq!((hidden.status, hidden.errors.as_str()), (DONE, ""));
+        // 90669057, 3429057 and 3431100 are 5678001h, 345001h and 345ABCh.
+        for part in ["5678", "345001", "345ABC", "90669057", "3429057", "3431100", "page A0000h", "type 01"] {
+            assert!(!hidden.text.contains(part), "{form:?} {part}: {}", hidden.text);
+        }
+        for part in [
+            "GTT[0] = \u{B7}\u{B7}",
+            "GTT[9] is now \u{B7}\u{B7}",
+            "refused 7: entry 0's page \u{B7}\u{B7} is at or above the top of memory, 800000h",
+            "memory \u{B7}\u{B7} = 00000000h",
+            "memory \u{B7}\u{B7} takes 00000007h",
+            "refused 4: entry 2, \u{B7}\u{B7}, is not valid",
+            "refused 5: entry 3 has type \u{B7}\u{B7}",
+            "memory \u{B7}\u{B7} = \u{B7}\u{B7}",
+            "write2 GTT[0] \u{B7}\u{B7}",
+            "refused 4: entry 2, \u{B7}\u{B7}, is not valid (after 0 steps, head 00000000h)",
+            "write GTT[7] \u{B7}\u{B7}",
+            "refused 6: word 7 of the table, at A001Ch, is protected",
+        ] {
+            assert!(hidden.text.contains(part), "{form:?} {part}: {}", hidden.text);
+        }
+        // --show-protected, or nothing that is ever protected.
+        let shown = run_with(&[&words[..], &["--show-protected"]].concat(), trace.as_bytes());
+        let never = run_with(&words, open.as_bytes());
+        for text in [&shown.text, &never.text] {
+            assert!(!text.contains('\u{B7}'), "{form:?}: {text}");
+            for part in
+                ["GTT[0] = 05678001h", "entry 2, 05678000h, is", "memory 345ABCh = 00000000h", "type 01, display"]
+            {
+                assert!(text.contains(part), "{form:?} {part}: {text}");
+            }
+        }
+    }
+    let json = run_with(&["replay", "--board=2", "--json", "-"], trace.as_bytes()).text;
+    let [read, run] = ["read4 WINDOW+1ABCh", "run 1"].map(|statement| {
+        let statement = format!("\"statement\":\"{statement}\"");
+        json.lines().find(|line| line.contains(&statement)).expect("a record")
+    });
+    assert!(read.contains("\"at\":null,\"value\":0,") && read.ends_with("\"redacted\":true}"), "{read}");
+    assert!(run.contains("\"at\":0,\"value\":0,") && run.ends_with("\"redacted\":true}"), "{run}");
+
+    // An answer's address is such a value, too.
+    let folder = folder("table-answers");
+    for (name, access, secret) in [
+        ("read", "read4 WINDOW+1ABCh", true),
+        ("write", "write4 WINDOW+1ABCh 7", true),
+        ("refused", "read4 WINDOW+2000h", false),
+    ] {
+        let answers = folder.join(name);
+        let trace = format!("{key}{table}{access}\n{locked}");
+        run_with(&["replay", "--board=2", "--answers", &word(&answers), "-"], trace.as_bytes());
+        let mode = fs::metadata(&answers).expect("answers").permissions().mode() & 0o777;
+        assert_eq!(mode == 0o600, secret, "{name}: {mode:o}");
+    }
+}
+
 #[test]
 fn a_dump_is_whole_and_private_or_redacted_and_open() {
     let folder = folder("dump");

@@ -11,7 +11,12 @@ const DESK: &str = "config write dev0.SMRAM 7Ch\nconfig write dev1.GMADR C000000
 
 /// What the command says of a trace.
 fn state(trace: &str) -> String {
-    let run = run_with(&["state", "-"], trace.as_bytes());
+    state_on("82810", trace)
+}
+
+/// The same on another board.
+fn state_on(board: &str, trace: &str) -> String {
+    let run = run_with(&["state", "--board", board, "-"], trace.as_bytes());
     assert_eq!((run.status, run.errors.as_str()), (DONE, ""), "{trace}");
     assert!(run.text.lines().all(|line| line.chars().count() <= 80), "{}", run.text);
     run.text
@@ -129,6 +134,84 @@ fn the_table_is_shown_by_range() {
     assert_eq!(section(&text, "Translation table"), rows);
 }
 
+/// Request 10 of document 02: the words are main memory's, whoever wrote them.
+#[test]
+fn a_table_in_main_memory_is_shown_with_its_place() {
+    let text = state_on(
+        "82810-main",
+        &format!(
+            "{DESK}write PGTBL_CTL 200001h\nentries 0..15 100000h\nword 200040h C0110FFFh C0111007h 112003h\n\
+             master write4 20004Ch 6FF001h\nwrite GTT[20] 700000h\nentry 21 700000h\nwrite4 20FFFCh FFFFFFF9h\n"
+        ),
+    );
+    assert!(text.starts_with("State: board 82810-main, 8 MiB, after "), "{text}");
+    expect_rows(&text, "Device 0, host bridge", &["02h  DID           7120h  82810"]);
+    let control = "2020h  PGTBL_CTL       00200001h  translation on, table at 200000h";
+    expect_rows(&text, "Memory-mapped registers", &[control]);
+    let rows = [
+        "in main memory        200000h-20FFFFh      by PGTBL_CTL's bits 31:12",
+        "entries 0..15         100000h-10FFFFh      main memory",
+        "entries 16..17        110000h-111FFFh      main memory (type 11)",
+        "entry 18              112000h-112FFFh      refused 5: display cache (type 01)",
+        "entry 19              6FF000h-6FFFFFh      main memory",
+        "entry 21              700000h-700FFFh      refused 6: protected main memory",
+        "entry 16383           3FFFF000h-3FFFFFFFh  refused 7: at or above TOM",
+    ];
+    assert_eq!(section(&text, "Translation table"), rows);
+    let cold = state_on("dc100-main", "");
+    expect_rows(&cold, "Device 0, host bridge", &["02h  DID           7122h  82810-DC100"]);
+    let rows = ["in main memory        0h-FFFFh             by PGTBL_CTL's bits 31:12", "no valid entry"];
+    assert_eq!(section(&cold, "Translation table (off: every access through it is refused 3)"), rows);
+}
+
+/// Words that no access reaches are told by range.
+#[test]
+fn a_table_that_is_protected_or_past_the_top_is_told() {
+    for (base, rows) in [
+        ("A0001h", &["words 0..16383        A0000h-AFFFFh        refused 6: in protected memory"][..]),
+        ("6FF001h", &["words 1024..16383     700000h-70EFFFh      refused 6: in protected memory"]),
+        (
+            "7FF001h",
+            &[
+                "words 0..1023         7FF000h-7FFFFFh      refused 6: in protected memory",
+                "words 1024..16383     800000h-80EFFFh      refused 7: at or above TOM",
+            ],
+        ),
+        ("FFFFF001h", &["words 0..16383        FFFFF000h-10000EFFFh  refused 7: at or above TOM"]),
+    ] {
+        let ring = "write LP_RING_START 400000h\nwrite LP_RING_LENGTH 1\nwrite LP_RING_TAIL 10h\n";
+        let text = state_on("2", &format!("{DESK}write PGTBL_CTL {base}\n{ring}"));
+        assert_eq!(&section(&text, "Translation table")[1..], rows, "{base}");
+        let refused = match base {
+            "A0001h" => "refused 6: word 1024 of the table, at A1000h, is",
+            "6FF001h" => "refused 6: word 1024 of the table, at 700000h, is",
+            "7FF001h" => "refused 7: word 1024 of the table, at 800000h, is",
+            _ => "refused 7: word 1024 of the table, at 100000000h,",
+        };
+        expect_rows(&text, "Ring, 4 words", &[&format!("00000h                  4  {refused}")]);
+    }
+}
+
+/// Any memory may be taken for a table: an image of valid words that do not count up.
+#[test]
+fn a_long_table_in_main_memory_is_cut() {
+    let image = cli::folder("long-table").join("image");
+    std::fs::write(&image, [0x01, 0x00, 0x10, 0x00].repeat(16_384)).expect("an image");
+    let words = ["state", "--board=3", "--memory=8M", "--image", &cli::word(&image), "-"];
+    let run = run(&words);
+    assert_eq!((run.status, run.errors.as_str()), (DONE, ""));
+    let rows = section(&run.text, "Translation table");
+    assert_eq!((rows.len(), rows[65]), (66, ".. and 16,320 more words"));
+    let map = cli::run(&[&["map"], &words[1..]].concat());
+    assert!(
+        map.text.ends_with(
+            "  window 003F000-003FFFF  entry 63              memory 00100000-00100FFF\n  .. and 16,320 more words\n"
+        ),
+        "{}",
+        map.text
+    );
+}
+
 /// A ring of two pages whose head has passed the tail.
 #[test]
 fn the_rings_words_are_named_from_head_to_tail() {
@@ -198,6 +281,42 @@ fn the_rings_words_in_memory_that_is_protected_at_some_time_are_left_out() {
         assert!(!text.contains("4B455921"), "{text}");
         expect_rows(&text, "Ring", &["00000h     A0000h       4  \u{B7}\u{B7}"]);
     }
+}
+
+/// Nor do the words of a table there, nor anything that they lead to: protected now, before, or later.
+#[test]
+fn a_table_in_memory_that_is_protected_at_some_time_is_left_out() {
+    let list = |key: &str, smram: &str, open: &str| {
+        let setup =
+            format!("config write dev0.SMRAM {smram}\nsmm word A0000h {key}\nreset\nconfig write dev0.SMRAM {open}\n");
+        let ring = "config write dev1.GMADR C0000000h\nconfig write dev1.MMADR F0000000h\nconfig write dev1.PCICMD 2\n\
+                    write PGTBL_CTL 9F001h\nwrite LP_RING_START 3FF000h\nwrite LP_RING_LENGTH 2001h\nwrite LP_RING_TAIL 2FF8h\n\
+                    write4 9FFFCh 100001h\n";
+        format!("{setup}{ring}")
+    };
+    // A good entry, one that is not valid, of another type, of a protected page, past the top.
+    let keys = ["345001h 346001h", "345000h 346000h", "345003h 346001h", "A0001h 346001h", "12345001h 12346001h"];
+    for board in ["82810-main", "dc100-main"] {
+        for open in ["44h", "40h"] {
+            let texts = keys.map(|key| state_on(board, &list(key, "4Ch", open)));
+            assert!(texts.iter().all(|text| *text == texts[0]), "{}", texts[0]);
+            let rows = [
+                "in main memory        9F000h-AEFFFh        by PGTBL_CTL's bits 31:12",
+                "entry 1023            100000h-100FFFh      main memory",
+                "words 1024..16383     A0000h-AEFFFh        \u{B7}\u{B7}",
+            ];
+            assert_eq!(section(&texts[0], "Translation table"), rows);
+            let rows = ["00000h    100000h   1,024  noop", "01000h         \u{B7}\u{B7}   2,046  \u{B7}\u{B7}"];
+            assert_eq!(&section(&texts[0], "Ring, 3,070 words")[1..], rows);
+            let map = |key: &str| run_with(&["map", "--board", board, "-"], list(key, "4Ch", open).as_bytes()).text;
+            assert_eq!(map(keys[0]), map(keys[1]));
+            let row = "  window 0400000-3FFFFFF  words 1024..16383     \u{B7}\u{B7} 000A0000-000AEFFF\n";
+            assert!(map(keys[0]).ends_with(row), "{}", map(keys[0]));
+        }
+    }
+    // Never protected: it is everybody's.
+    let shown = state_on("82810-main", &list(keys[0], "44h", "44h"));
+    expect_rows(&shown, "Translation table", &["entries 1024..1025    345000h-346FFFh      main memory"]);
 }
 
 /// The bytes of each device of a dump.

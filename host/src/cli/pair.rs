@@ -224,6 +224,8 @@ impl Guard<'_, '_> {
                 let start = self.meant(record, bases);
                 self.has(start) || self.has(start + 3)
             }
+            // It may have read a table word, which is not its value.
+            Some(Kind::DataRead | Kind::CodeRead) if answer.code != 0 => false,
             _ => heard.protected || heard.last.is_some_and(|address| self.has(address.into())),
         }
     }
@@ -324,12 +326,17 @@ pub mod wrong {
         /// Reaches it by an address at which the reference does not.
         opening: HsegOpensCompatibleRange,
         unlocking: LockDoesNotHold,
+        /// Translates by a table word in protected memory.
+        translating: LookupReadsProtectedWords,
+        /// Reads a table word in protected memory by its register.
+        reading: RegisterReadsProtectedWords,
     }
 }
 
 #[cfg(test)]
 mod tests {
     use super::super::failure::Status;
+    use super::super::trace;
     use super::*;
 
     fn memory() -> [Vec<u8>; 2] {
@@ -394,6 +401,38 @@ mod tests {
         let failure = pair.replay(&record::encode(&records), |_| Ok(())).expect_err("a leaking call");
         assert!(failure.message.contains("DISAGREE at record 3 of the call"), "{}", failure.message);
         assert!(failure.message.contains("shown as 0") && !failure.message.contains("5A"), "{}", failure.message);
+    }
+
+    /// The words of a table in main memory are the key's, each a good entry.
+    #[test]
+    fn a_key_that_only_the_call_takes_for_a_table_is_not_shown() {
+        let setup =
+            "config write dev0.SMRAM 4Ch\nconfig write dev1.GMADR C0000000h\nconfig write dev1.MMADR F0000000h\n\
+                     config write dev1.PCICMD 2\nwrite PGTBL_CTL A0001h\n";
+        let key: [u8; 4] = 0x005A_5001_u32.to_le_bytes();
+        let accesses: [(&str, Call); 3] = [
+            ("read4 WINDOW+ABCh", wrong::translating),
+            ("write4 WINDOW+ABCh 7", wrong::translating),
+            ("read GTT[1]", wrong::reading),
+        ];
+        for (access, call) in accesses {
+            let records = trace::assemble(&format!("{setup}{access}\n")).expect("a trace").records;
+            for hidden in [false, true] {
+                let memory = memory().map(|mut memory| {
+                    memory[0xA_0000..0xA_1000].as_chunks_mut().0.fill(key);
+                    memory
+                });
+                let pair = Pair::by(Board::I82810Main, memory, call);
+                let mut pair = if hidden { pair.without_values() } else { pair };
+                let failure = pair.replay(&records, |_| Ok(())).expect_err("a leaking call");
+                assert_eq!(failure.status, Status::Disagreement);
+                assert!(failure.message.contains("DISAGREE at record 10 of the call"), "{}", failure.message);
+                for part in ["005A5", "5A5001", "5A5ABC", "50 5A 00", "5A 5A 00"] {
+                    assert!(!failure.message.contains(part), "{access}: {}", failure.message);
+                }
+                assert!(failure.message.contains("shown as 0"), "{}", failure.message);
+            }
+        }
     }
 
     fn list(length: usize, resets: &[usize]) -> Vec<u8> {

@@ -500,82 +500,102 @@ mod tests {
         writes.into_iter().flat_map(|(device, at, width, data)| config_write(device, at, width, data)).collect()
     }
 
-    /// The proved call's answers to the last records of a list.
-    fn asked(memory: &mut [u8], list: &[Record], last: usize) -> Vec<Answer> {
-        let records = record::encode(list);
-        let mut answers = vec![0; records.len()];
-        assert_eq!(gmch_replay(Board::I82810.number(), memory, &records, &mut answers), 0);
-        record::decode_answers(&answers).skip(list.len() - last).collect()
+    /// A board that the proved call is asked about.
+    struct Proved {
+        board: Board,
+        memory: Vec<u8>,
     }
 
-    /// What the proved call does with a read after these records: a cell's words without the rule.
-    fn goes(memory: &mut [u8], setup: &[Record], probe: Record) -> &'static str {
-        let list = [setup, &[probe], &config_write(0, 0x70, 4, 0)[..1], &[Record::io_read(0xCFC, 1)]].concat();
-        let [answer, _, smram] = asked(memory, &list, 3)[..] else { panic!("three answers") };
-        match (answer.refusal(), answer.target()) {
-            (None, Some(Target::Memory)) if answer.address == probe.address => "memory",
-            (None, Some(Target::Memory)) if answer.address + 0xFEE0_0000 == probe.address => "A0000h up",
-            (None, Some(Target::Hub)) if smram.value & 1 != 0 => "hub, error",
-            (None, Some(Target::Hub)) => "hub",
-            (None, Some(Target::Vga)) => "VGA",
-            (None, Some(Target::MemoryMapped)) => "registers",
-            // The setups leave translation off.
-            (Some(Refusal::TranslationOff), _) => "window",
-            other => panic!("{other:?}"),
+    impl Proved {
+        /// The proved call's answers to the last records of a list.
+        fn asked(&mut self, list: &[Record], last: usize) -> Vec<Answer> {
+            let records = record::encode(list);
+            let mut answers = vec![0; records.len()];
+            assert_eq!(gmch_replay(self.board.number(), &mut self.memory, &records, &mut answers), 0);
+            record::decode_answers(&answers).skip(list.len() - last).collect()
+        }
+
+        /// What the proved call does with a read after these records: a cell's words without the rule.
+        fn goes(&mut self, setup: &[Record], probe: Record) -> &'static str {
+            let list = [setup, &[probe], &config_write(0, 0x70, 4, 0)[..1], &[Record::io_read(0xCFC, 1)]].concat();
+            let [answer, _, smram] = self.asked(&list, 3)[..] else { panic!("three answers") };
+            match (answer.refusal(), answer.target()) {
+                (None, Some(Target::Memory)) if answer.address == probe.address => "memory",
+                (None, Some(Target::Memory)) if answer.address + 0xFEE0_0000 == probe.address => "A0000h up",
+                (None, Some(Target::Hub)) if smram.value & 1 != 0 => "hub, error",
+                (None, Some(Target::Hub)) => "hub",
+                (None, Some(Target::Vga)) => "VGA",
+                (None, Some(Target::MemoryMapped)) => "registers",
+                // The setups leave translation off.
+                (Some(Refusal::TranslationOff), _) => "window",
+                other => panic!("{other:?}"),
+            }
+        }
+
+        /// What the proved call does with an entry that names a page: by a fetch of the parser, which needs no
+        /// window of the board's own. A table in main memory is at 20000h.
+        fn met(&mut self, smram: u32, page: u32) -> &'static str {
+            let on = if smram & 0xC0 == 0 { smram | 0xC0 } else { smram };
+            let mut list = setup(on, 0x8000_0000, 0x4000_0000, 1);
+            let registers =
+                [(names::PGTBL_CTL, 0x2_0001), (0x1_0010, page | 1), (0x2038, 0x4000), (0x203C, 1), (0x2030, 8)];
+            list.extend(registers.map(|(at, data)| Record::write(0x4000_0000 + at, 4, data, false)));
+            list.push(Record::run(1));
+            match self.asked(&list, 1)[0] {
+                Answer { code: 0, count: 1, .. } => "memory",
+                Answer { code: 6, .. } => "refused 6",
+                Answer { code: 7, .. } => "refused 7",
+                other => panic!("{other}"),
+            }
+        }
+
+        /// Each column at this address, and the mark, as the proved call has them.
+        fn check(&mut self, row: &Row, setup: &[Record], smram: u32, address: u32) {
+            let [processor, data, code, master] = probes(address).map(|probe| self.goes(setup, probe));
+            let management = if data == code { data } else { "code memory" };
+            let found = row.cells.each_ref().map(|cell| cell.text.split(" (").next().unwrap_or_default());
+            assert_eq!(found[..3], [processor, management, master], "{address:X}h, SMRAM {smram:X}h");
+            let graphics = if address < 0x4000_0000 { self.met(smram, address & !0xFFF) } else { "-" };
+            assert_eq!(found[3], graphics, "{address:X}h, SMRAM {smram:X}h");
+            assert_eq!(row.protected, graphics == "refused 6", "{address:X}h, SMRAM {smram:X}h");
         }
     }
 
-    /// What the proved call does with an entry that names a page: by a fetch of the parser, which needs no
-    /// window of the board's own.
-    fn met(memory: &mut [u8], smram: u32, page: u32) -> &'static str {
-        let on = if smram & 0xC0 == 0 { smram | 0xC0 } else { smram };
-        let mut list = setup(on, 0x8000_0000, 0x4000_0000, 1);
-        let registers = [(0x2020, 1), (0x1_0010, page | 1), (0x2038, 0x4000), (0x203C, 1), (0x2030, 8)];
-        list.extend(registers.map(|(at, data)| Record::write(0x4000_0000 + at, 4, data, false)));
-        list.push(Record::run(1));
-        match asked(memory, &list, 1)[0] {
-            Answer { code: 0, count: 1, .. } => "memory",
-            Answer { code: 6, .. } => "refused 6",
-            Answer { code: 7, .. } => "refused 7",
-            other => panic!("{other}"),
-        }
-    }
-
-    /// Each column at this address, and the mark, as the proved call has them.
-    fn check_proved(row: &Row, memory: &mut [u8], setup: &[Record], smram: u32, address: u32) {
-        let [processor, data, code, master] = probes(address).map(|probe| goes(memory, setup, probe));
-        let management = if data == code { data } else { "code memory" };
-        let found = row.cells.each_ref().map(|cell| cell.text.split(" (").next().unwrap_or_default());
-        assert_eq!(found[..3], [processor, management, master], "{address:X}h, SMRAM {smram:X}h");
-        let graphics = if address < 0x4000_0000 { met(memory, smram, address & !0xFFF) } else { "-" };
-        assert_eq!(found[3], graphics, "{address:X}h, SMRAM {smram:X}h");
-        assert_eq!(row.protected, graphics == "refused 6", "{address:X}h, SMRAM {smram:X}h");
-    }
-
-    /// Every SMRAM, at bases below, around and above memory: each row is right at its ends, next to them
-    /// and inside, by the reference and by the proved call, and the rows cover all addresses.
-    #[test]
-    fn every_address_of_a_row_goes_where_the_row_says() {
+    /// SMRAM at each of these, at bases below, around and above memory: each row is right at its ends, next to them
+    /// and inside, by the reference and by the proved call, and the rows cover all addresses. How many were asked.
+    fn every_row_is_right(board: Board, smrams: impl Iterator<Item = u32>) -> usize {
         let bases = [(0, 0), (0xC000_0000, 0xF000_0000), (0xFC00_0000, 0xFFF8_0000), (0, 0x0200_0000), (0, 0x10_0000)];
         let memory = Memory::zeros(8 << 20);
         let mut asked = 0;
-        for smram in (0..=0xFF).step_by(4) {
+        for smram in smrams {
             // Every other one locked.
             let smram = smram | smram >> 1 & 2;
             for (number, (window, registers)) in bases.into_iter().enumerate().skip(smram as usize / 4 % 2).step_by(2) {
                 let records = setup(smram, window, registers, number as u32 & 1);
                 let list = List::binary(String::new(), record::encode(&records)).expect("whole records");
-                let map = Map::after(Board::I82810, &memory, &list).expect("a map");
-                asked += check(&map, &memory, &records, smram);
+                let map = Map::after(board, &memory, &list).expect("a map");
+                asked += check(&map, board, &memory, &records, smram);
             }
         }
+        asked
+    }
+
+    #[test]
+    fn every_address_of_a_row_goes_where_the_row_says() {
+        let asked = every_row_is_right(Board::I82810, (0..=0xFF).step_by(4));
         assert!(asked > 5_000, "{asked}");
     }
 
-    fn check(map: &Map, memory: &Memory, setup: &[Record], smram: u32) -> usize {
-        let mut lent = memory.fresh();
+    #[test]
+    fn a_table_in_main_memory_leaves_the_map() {
+        let asked = every_row_is_right(Board::Dc100Main, (0..=0xFF).step_by(28));
+        assert!(asked > 500, "{asked}");
+    }
+
+    fn check(map: &Map, board: Board, memory: &Memory, setup: &[Record], smram: u32) -> usize {
+        let mut proved = Proved { board, memory: memory.fresh() };
         let (mut bytes, mut table) = (memory.fresh(), Box::new([0; TABLE_WORDS]));
-        let mut hub = Gmch::observed(Board::I82810, &mut bytes, &mut table, Heard::default()).expect("a board");
+        let mut hub = Gmch::observed(board, &mut bytes, &mut table, Heard::default()).expect("a board");
         for record in setup {
             hub.answer(record);
         }
@@ -593,7 +613,7 @@ mod tests {
                 let found = [cell(rules[0]), management(rules[1], rules[2]), cell(rules[3])];
                 assert_eq!(found, row.cells[..3], "{address:X}h");
                 assert_eq!(hub.protected(address), row.protected, "{address:X}h");
-                check_proved(row, &mut lent, setup, smram, address);
+                proved.check(row, setup, smram, address);
                 asked += 1;
             }
         }
@@ -628,5 +648,77 @@ mod tests {
             mapping(11, 11, 0x80_4000, 0b01, Reach::OtherMemory),
         ];
         assert_eq!(runs(table.map(Word::Shown), reach), expected);
+    }
+
+    /// A hub with its table in main memory, at the base that PGTBL_CTL is given, in a memory of 8 MiB.
+    fn table_in_memory(smram: u32, base: u32, words: &[(usize, u32)], guarded: &[Range<u32>]) -> Table {
+        let (mut memory, mut table) = (vec![0; 8 << 20], Box::new([0; TABLE_WORDS]));
+        for &(at, word) in words {
+            memory[at..at + 4].copy_from_slice(&word.to_le_bytes());
+        }
+        let mut hub = Gmch::new(Board::I82810Main, &mut memory, &mut table).expect("a board");
+        let mut records = setup(smram, 0xC000_0000, 0xF000_0000, 0);
+        records.push(Record::write(0xF000_0000 + names::PGTBL_CTL, 4, base, false));
+        for record in &records {
+            assert_eq!(hub.answer(record).code, 0);
+        }
+        Table::of(&hub, guarded)
+    }
+
+    /// Words that are refused and words that are not for everybody are told by range, whatever is in them.
+    #[test]
+    fn words_of_a_table_in_main_memory_are_told_by_range() {
+        let words = [(0x9_FFF8, 0x10_0001), (0x9_FFFC, 0xC010_1FF9), (0xA_0000, 0x10_2001), (0xA_0FFC, 0x10_3001)];
+        let mapping = |first, last, found| Mapping { first, last, found };
+        let pages = Found::Pages { page: 0x10_0000, kind: 0, reach: Reach::Reached };
+        let shut = table_in_memory(0x4C, 0x9_F001, &words, &[0xA_0000..0xC_0000]);
+        let expected = [mapping(1022, 1023, pages), mapping(1024, 16383, Found::Refused(Refusal::PageProtected))];
+        assert_eq!(shut, Table { translation: true, home: Some(0x9_F000), mappings: expected.to_vec() });
+        assert_eq!(shut.places(&expected[1]), Some((0xA_0000, 0xA_EFFF)));
+        assert_eq!((shut.home(), shut.refusal()), (Some((0x9_F000, 0xA_EFFF)), None));
+        // Open now, and protected at another time.
+        let open = table_in_memory(0x44, 0x9_F000, &words, &[0xA_0000..0xC_0000]);
+        assert_eq!(open.mappings, [mapping(1022, 1023, pages), mapping(1024, 16383, Found::Hidden)]);
+        assert!(!open.translation);
+        // Never protected.
+        let never = table_in_memory(0x44, 0x9_F000, &words, &[]);
+        let last = mapping(2047, 2047, Found::Pages { page: 0x10_3000, kind: 0, reach: Reach::Reached });
+        assert_eq!(never.mappings, [mapping(1022, 1024, pages), last]);
+    }
+
+    #[test]
+    fn a_table_out_of_reach_is_said_to_be() {
+        for (smram, base, refusal, part) in [
+            (0x4C, 0xA_0001, Refusal::PageProtected, "A0000h-AFFFFh (PGTBL_CTL), protected: every word is refused 6."),
+            (0x70, 0x70_0000, Refusal::PageProtected, "700000h-70FFFFh (PGTBL_CTL), protected: "),
+            (
+                0x40,
+                0x80_0000,
+                Refusal::PageAboveMemory,
+                "800000h-80FFFFh (PGTBL_CTL), at or above TOM: every word is refused 7.",
+            ),
+            (0x40, 0xFFFF_F000, Refusal::PageAboveMemory, "FFFFF000h-10000EFFFh (PGTBL_CTL), at or above TOM: "),
+        ] {
+            let table = table_in_memory(smram, base, &[], &[]);
+            assert_eq!(table.refusal(), Some(refusal));
+            let line = table.line().expect("it is in main memory");
+            assert!(line.contains(part), "{line}");
+        }
+        let reached = table_in_memory(0x4C, 0x20_0001, &[], &[]);
+        assert_eq!((reached.refusal(), reached.mappings.len()), (None, 0));
+        let line = "Translation table: in main memory, 200000h-20FFFFh (PGTBL_CTL).";
+        assert_eq!(reached.line().as_deref(), Some(line));
+        assert_eq!(Table::default().line(), None);
+    }
+
+    /// Any memory may be taken for a table.
+    #[test]
+    fn of_a_long_table_in_main_memory_some_lines_are_shown() {
+        let words: Vec<(usize, u32)> = (0..16_384).map(|word| (0x20_0000 + 4 * word, 0x10_0001)).collect();
+        let table = table_in_memory(0x40, 0x20_0001, &words, &[]);
+        let (shown, left) = table.shown();
+        assert_eq!((shown.len(), left, table.mappings.len()), (64, 16_320, 16_384));
+        let private = Table { home: None, ..table };
+        assert_eq!((private.shown().0.len(), private.shown().1), (16_384, 0));
     }
 }

@@ -230,4 +230,57 @@ mod tests {
             assert!(!guard.hides(&Record::write(0x9_FFFC, 4, 7, false), &follower));
         }
     }
+
+    /// The list's guard, and whether it hides this record at the list's end.
+    fn hides_after(list: &str, record: &Record) -> bool {
+        let records: Vec<Record> = decode(&assemble(list).expect("a trace").records).collect();
+        let mut ground = Ground::new();
+        let mut follower = Follower::new(&mut ground);
+        records.iter().for_each(|record| follower.note(record));
+        Guard::of(&records).hides(record, &follower)
+    }
+
+    /// What is written to an entry goes to memory on some boards: to protected places of management mode's writes,
+    /// and to A0000h-BFFFFh of anybody's while that is not protected.
+    #[test]
+    fn a_table_in_a_protected_place_is_guarded() {
+        let setup = "config write dev0.SMRAM 7Ch\nconfig write dev1.MMADR F0000000h\nconfig write dev1.PCICMD 2\n";
+        let open = ["config write dev0.SMRAM 44h\n", "config write dev0.SMRAM 40h\n"];
+        let entry = |number: u32, management| Record::write(0xF001_0000 + 4 * number, 4, 0x4B45_5921, management);
+        for (table, number, guarded) in [
+            ("A0000h", 0, true),
+            ("B0001h", 16_383, true),
+            ("9F000h", 1023, false),
+            ("9F000h", 1024, true),
+            ("BF000h", 1023, true),
+            ("BF000h", 1024, false),
+            ("700000h", 0, true),
+            ("6FF000h", 1023, false),
+            ("6FF000h", 1024, true),
+            ("1FFFF000h", 1023, true),
+            ("1FFFF000h", 1024, false),
+            ("FFFFF000h", 1024, false),
+            ("200000h", 0, false),
+        ] {
+            let list = format!("{setup}write PGTBL_CTL {table}\n");
+            assert_eq!(hides_after(&list, &entry(number, true)), guarded, "{table} {number}");
+            assert!(!hides_after(&list, &entry(number, false)), "{table} {number}: it is refused");
+            // Five digits: A0000h-BFFFFh.
+            let low = guarded && table.len() == 6;
+            for open in open {
+                let list = format!("{list}{open}");
+                assert_eq!(hides_after(&list, &entry(number, true)), guarded, "{table} {number}");
+                assert_eq!(hides_after(&list, &entry(number, false)), low, "{table} {number}");
+            }
+            // The table moves on, and the list may do so on a board where the register was not there.
+            let moved = format!("{list}{}write PGTBL_CTL 200000h\n", open[0]);
+            assert_eq!(hides_after(&moved, &entry(number, false)), low, "{table} {number}");
+        }
+        let list = format!("{setup}write PGTBL_CTL A0000h\n{}", open[0]);
+        assert!(hides_after(&list, &Record { width: 2, ..entry(0, false) }));
+        for other in [entry(16_384, true), Record::master_write(0xF001_0000, 4, 7), Record::read(0xF001_0000, 4, true)]
+        {
+            assert!(!hides_after(&list, &other), "{other}");
+        }
+    }
 }

@@ -427,6 +427,61 @@ mod tests {
         assert!(landed > 1000, "{landed}");
     }
 
+    /// The same where the table is in main memory, and of every write of an entry that lands in memory which is
+    /// protected at another time.
+    #[test]
+    fn no_landed_write_of_a_table_word_in_protected_memory_is_listed() {
+        let (mut landed, mut shown) = (0, 0);
+        for seed in 0..60 {
+            let mut random = Random(seed);
+            let mut records = setup(&mut Random(1));
+            for _ in 0..200 {
+                match random.below(8) {
+                    0 => {
+                        records.push(Record::io_write(0xCF8, 4, 0x8000_0070));
+                        records.push(Record::io_write(0xCFC, 1, random.pick(&[0x40, 0x44, 0x4C, 0x50, 0x7C])));
+                    }
+                    1 => {
+                        let base = random.pick(&[0x9_F000, 0xA_0000, 0xB_F000, 0x6F_F000, 0x7F_F000, 0x20_0000]);
+                        records.push(Record::write(0xF000_2020, 4, base, false));
+                    }
+                    _ => {
+                        let (first, page) = (random.pick(&[0, 1022, 1023, 1024]), random.below(0x800) << 12);
+                        for entry in first..first + 1 + random.below(4) {
+                            let data = (page + 4096 * (entry - first)) | 1;
+                            records.push(Record::write(0xF001_0000 + 4 * entry, 4, data, random.one_in(3)));
+                        }
+                    }
+                }
+            }
+            let bytes = record::encode(&records);
+            let lists = [true, false].map(|macros| {
+                let mut text = Vec::new();
+                let lister = Lister { macros, comments: false, show_protected: false };
+                lister.write(&bytes, &mut text).expect("a vector takes all");
+                String::from_utf8(text).expect("a listing is UTF-8")
+            });
+            // A macro hides nothing, so both list the same records.
+            assert_eq!(lists[0].matches(REDACTED).count(), lists[1].matches(REDACTED).count(), "seed {seed}");
+            let (mut memory, mut table) = (vec![0; 8 << 20], Box::new([0; TABLE_WORDS]));
+            let mut hub = Gmch::new(Board::Dc100Main, &mut memory, &mut table).expect("a board");
+            for (record, line) in records.iter().zip(lists[1].lines()) {
+                let answer = hub.answer(record);
+                let entry = Some(answer.address).filter(|_| answer.target() == Some(Target::MemoryMapped));
+                let word = entry.and_then(names::entry_at).and_then(|entry| hub.table_word_address(entry as usize));
+                let Some(word) = word.filter(|_| answer.code == 0) else { continue };
+                let low = (0xA_0000..0xC_0000).contains(&word);
+                if low || record.is_management() && (0x70_0000..0x80_0000).contains(&word) {
+                    assert!(line.ends_with(REDACTED), "seed {seed}: {line}");
+                    landed += 1;
+                } else if !line.ends_with(REDACTED) {
+                    shown += 1;
+                }
+            }
+        }
+        assert!(landed > 500 && shown > 1000, "{landed} {shown}");
+    }
+
     /// Every record of one byte set, and every single byte of a good record changed.
     #[test]
     fn disasm_then_asm_gives_the_same_bytes_for_single_odd_records() {
