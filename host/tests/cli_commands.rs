@@ -71,6 +71,25 @@ fn the_whole_case_is_replayed_from_text_and_from_binary() {
     assert!(dc100.text.contains("71228086h"), "{}", dc100.text);
 }
 
+/// Every board by its name, in letters of either case, and by its kind's number.
+#[test]
+fn every_board_has_a_name_and_a_number() {
+    let ids = ["71208086h", "71228086h", "71208086h", "71228086h"];
+    for (board, id) in Board::ALL.into_iter().zip(ids) {
+        for word in [board.name().to_string(), board.name().to_uppercase(), board.number().to_string()] {
+            let run = run_with(&["replay", "--board", &word, "-"], WHOLE_CASE);
+            assert_eq!((run.status, run.errors.as_str()), (DONE, ""), "{word}");
+            assert!(run.text.contains(id), "{word}: {}", run.text);
+        }
+        for command in ["state", "map", "audit"] {
+            let run = run_with(&[command, "--board", board.name(), "-"], WHOLE_CASE);
+            assert_eq!((run.status, run.errors.as_str()), (DONE, ""), "{command} {board}");
+            let named = run.text.lines().next().is_some_and(|line| line.contains(&format!(": board {board}, 8 MiB, ")));
+            assert_eq!(named, command != "audit", "{}", run.text);
+        }
+    }
+}
+
 #[test]
 fn an_empty_list_is_replayed() {
     for command in ["replay", "asm", "disasm", "map"] {
@@ -307,6 +326,42 @@ fn a_map_shows_who_reaches_what() {
     assert!(run.text.lines().all(|line| line.len() <= 80), "{}", run.text);
     let code = cli::run(&["map", "--smram=48h"]);
     assert!(code.text.contains("code memory (2)"), "{}", code.text);
+}
+
+/// Where the table is in main memory, and what of it is out of reach: request 10 of document 02.
+#[test]
+fn a_map_shows_a_table_in_main_memory() {
+    let setup = "config write dev0.SMRAM 7Ch\nconfig write dev1.GMADR C0000000h\nconfig write dev1.MMADR F0000000h\n\
+                 config write dev1.PCICMD 2\n";
+    let map = |trace: &str| {
+        let run = run_with(&["map", "--board", "dc100-main", "-"], format!("{setup}{trace}").as_bytes());
+        assert_eq!((run.status, run.errors.as_str()), (DONE, ""), "{trace}");
+        assert!(run.text.lines().all(|line| line.chars().count() <= 80), "{}", run.text);
+        run.text
+    };
+    let text = map("write PGTBL_CTL 6FF001h\nentries 0..15 100000h\nentry 16 A0000h\nwrite GTT[17] 100003h\n");
+    assert!(text.starts_with("Address map: board dc100-main, 8 MiB, SMRAM 7Ch\n"), "{text}");
+    assert!(text.contains("\nTranslation table: in main memory, 6FF000h-70EFFFh (PGTBL_CTL).\n"), "{text}");
+    let table = "\nTranslation table (on)\n\
+                 \x20 window 0000000-000FFFF  entries 0..15         memory 00100000-0010FFFF\n\
+                 \x20 window 0010000-0010FFF  entry 16              refused 6: 000A0000-000A0FFF\n\
+                 \x20 window 0011000-0011FFF  entry 17              refused 5: type 01\n\
+                 \x20 window 0400000-3FFFFFF  words 1024..16383     refused 6: 00700000-0070EFFF\n";
+    assert!(text.ends_with(table), "{text}");
+    let past = map("write PGTBL_CTL FFFFF000h\n");
+    let line = "\nTranslation table: in main memory, FFFFF000h-10000EFFFh (PGTBL_CTL), at or above\n\
+                TOM: every word is refused 7.\n";
+    assert!(past.contains(line), "{past}");
+    assert!(
+        past.ends_with("  window 0000000-3FFFFFF  words 0..16383        refused 7: FFFFF000-10000EFFF\n"),
+        "{past}"
+    );
+    let key = map("write PGTBL_CTL A0001h\n");
+    let line = "\nTranslation table: in main memory, A0000h-AFFFFh (PGTBL_CTL), protected: every\nword is refused 6.\n";
+    assert!(key.contains(line), "{key}");
+    let cold = run(&["map", "--board=2", "--svg=-"]);
+    assert!(cold.text.contains("Translation table: in main memory, 0h-FFFFh (PGTBL_CTL)."), "{}", cold.text);
+    assert!(!run(&["map"]).text.contains("Translation table"));
 }
 
 /// The map's own questions need room in the last call.

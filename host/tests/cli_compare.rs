@@ -7,6 +7,10 @@ use mitrophel::{record, Record};
 use std::fs;
 use std::path::Path;
 
+/// A0000h-BFFFFh is for management mode, and there are a window and registers.
+const DESK: &str = "config write dev0.SMRAM 4Ch\nconfig write dev1.GMADR C0000000h\n\
+                    config write dev1.MMADR F0000000h\nconfig write dev1.PCICMD 2\n";
+
 /// A file of this folder.
 fn file(folder: &Path, name: &str, bytes: &[u8]) -> String {
     let path = folder.join(name);
@@ -120,6 +124,60 @@ fn runs_that_differ_at_the_lock_are_refused() {
     assert_eq!(run.status, DONE, "{}", run.errors);
     assert!(run.text.contains(&row("run 9", "code 0", "code 12")), "{}", run.text);
     assert!(run.text.contains("1 record after the lock, no answer differs."), "{}", run.text);
+}
+
+/// Demand 3 reads "table words in unprotected memory" for a table in main memory (request 10 of document 02).
+#[test]
+fn words_of_a_table_in_main_memory_are_among_the_unprotected_bytes() {
+    let trace = format!(
+        "{DESK}write PGTBL_CTL 200001h\nentry 0 A0000h\nentry 1 100000h\nconfig write dev0.SMRAM 4Eh\n\
+         read4 WINDOW+0\nwrite4 WINDOW+1000h 7\nread GTT[0]\nwrite GTT[2] 345001h\nsmm write4 A0000h 0\n\
+         write PGTBL_CTL A0001h\nread GTT[0]\nread4 WINDOW+0\nwrite GTT[0] 1\nwrite LP_RING_LENGTH 1\n\
+         write LP_RING_TAIL 8\nrun 1\nsmm read4 A0000h\n"
+    );
+    for board in ["82810-main", "3"] {
+        let run = run_with(&["compare", "--board", board, "-"], trace.as_bytes());
+        assert_eq!((run.status, run.errors.as_str()), (DONE, ""));
+        let joined = run.text.split_whitespace().collect::<Vec<_>>().join(" ");
+        let summary = "13 records after the lock, 1 answer differs, a value that management mode read from protected \
+                       memory: allowed. Registers and 8,257,536 unprotected bytes, the table words among them: equal.";
+        assert!(joined.contains(summary), "{}", run.text);
+    }
+    let sample = run(&["compare", "--board=2", &example("request-10-table-in-main-memory.trace")]);
+    assert_eq!((sample.status, sample.errors.as_str()), (DONE, ""));
+    assert!(sample.text.contains("7,208,960 unprotected bytes, the table words among them: equal."), "{}", sample.text);
+}
+
+/// A table that lay in the key's bytes before the lock has led writes to places that depend on the key.
+#[test]
+fn unprotected_bytes_that_differ_at_the_lock_are_refused() {
+    let folder = folder("compare-table");
+    let (one, two) =
+        (file(&folder, "one", &0x0034_5001_u32.to_le_bytes()), file(&folder, "two", &0x0034_6001_u32.to_le_bytes()));
+    let words = ["compare", "--board=2", "--key", &one, "--key", &two, "-"];
+    let open = DESK.replace("4Ch", "44h");
+    let trace = format!("{open}write PGTBL_CTL A0001h\nwrite4 WINDOW+ABCh 7\nconfig write dev0.SMRAM 4Eh\n");
+    let run = run_with(&words, trace.as_bytes());
+    assert_eq!((run.status, run.text.as_str()), (INPUT, ""));
+    let start =
+        "mitrophel: standard input:7: when the lock is set, the unprotected byte at 345ABCh depends on the key: ";
+    assert!(run.errors.starts_with(start), "{}", run.errors);
+    assert!(run.errors.contains("or the table was there"), "{}", run.errors);
+    // What is read there is no failure, and where it was read from is the key's.
+    let reads = trace.replace("write4 WINDOW+ABCh 7", "read4 WINDOW+ABCh\nread GTT[0]");
+    for (options, address, value) in [
+        (&[][..], ["\u{B7}\u{B7}"; 2], ["\u{B7}\u{B7}"; 2]),
+        (&["--show-protected"], ["00345ABCh", "00346ABCh"], ["00345001h", "00346001h"]),
+    ] {
+        let run = run_with(&[&words[..], options].concat(), reads.as_bytes());
+        assert_eq!((run.status, run.errors.as_str()), (DONE, ""));
+        assert!(run.text.contains(&row("read4 WINDOW+ABCh", address[0], address[1])), "{}", run.text);
+        assert!(run.text.contains(&row("read GTT[0]", value[0], value[1])), "{}", run.text);
+    }
+    // The private table comes from the list.
+    let private = run_with(&[&words[..1], &words[2..]].concat(), trace.as_bytes());
+    assert_eq!((private.status, private.errors.as_str()), (DONE, ""));
+    assert!(private.text.contains("Registers, table and 8,257,536 unprotected bytes: equal."), "{}", private.text);
 }
 
 /// Of many differences before the lock a few are shown.

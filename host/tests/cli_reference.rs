@@ -3,6 +3,7 @@
 mod cli;
 
 use cli::{folder, run, word, DONE, USAGE};
+use mitrophel::Board;
 use std::fs;
 use std::path::{Path, PathBuf};
 use std::process::Command;
@@ -115,12 +116,57 @@ fn every_code_is_explained_with_an_example_that_runs() {
     for code in 2..=13 {
         let told = run(&["explain", &code.to_string()]);
         assert_eq!((told.status, told.errors.as_str()), (DONE, ""));
-        let at = told.text.find("mitrophel replay - <<").expect("an example");
-        let run = Command::new("bash").args(["-c", &told.text[at..]]).env("PATH", &path).output().expect("bash runs");
-        let printed = String::from_utf8(run.stdout).expect("text");
-        let last = printed.lines().last().expect("an answer");
-        assert!(last.contains(&format!(" refused {code}: ")), "{last}");
+        let examples: Vec<&str> = told.text.split("mitrophel replay").skip(1).collect();
+        // 6 and 7 are also given to a word of a table in main memory.
+        let homes: &[&str] = if [6, 7].contains(&code) { &["entry 1's page", "word 1 of the table,"] } else { &[""] };
+        assert_eq!(examples.len(), homes.len(), "{}", told.text);
+        for (example, home) in examples.iter().zip(homes) {
+            let script = format!("mitrophel replay{example}");
+            let run = Command::new("bash").args(["-c", &script]).env("PATH", &path).output().expect("bash runs");
+            let printed = String::from_utf8(run.stdout).expect("text");
+            let last = printed.lines().last().unwrap_or_else(|| panic!("{script}: no answer"));
+            assert!(last.contains(&format!(" refused {code}: {home}")), "{last}");
+        }
     }
+}
+
+/// Where the table is in main memory, a word's 7 and 6 stand before the entry's own.
+#[test]
+fn the_orders_of_both_homes_of_the_table_are_told() {
+    for (code, orders) in [
+        (
+            "6",
+            &["13, 2, 10, 7, [6]", "13, 2, 9, 3, 7, [6], 4, 5, 7, [6]", "13, 11, 8, 3, 7, [6], 4, 5, 7, [6], 12"][..],
+        ),
+        ("7", &["13, 2, 10, [7], 6", "13, 2, 9, 3, [7], 6, 4, 5, [7], 6", "13, 11, 8, 3, [7], 6, 4, 5, [7], 6, 12"]),
+        ("3", &["13, 2, 9, [3], 7, 6, 4, 5, 7, 6", "13, 2, 9, [3], 4, 5, 7, 6"]),
+        ("10", &["13, 2, [10], 7, 6"]),
+    ] {
+        let told = run(&["explain", code]).text;
+        for order in orders {
+            assert!(told.lines().any(|line| line.ends_with(&format!("  {order}"))), "{order}\n{told}");
+        }
+    }
+    for (code, part) in [("6", "entry's own word"), ("7", "does not wrap at 32 bits"), ("1", "board kind not 0 to 3")] {
+        let told = run(&["explain", code]).text.split_whitespace().collect::<Vec<_>>().join(" ");
+        assert!(told.contains(part), "{told}");
+    }
+}
+
+/// Help and manual page name every board.
+#[test]
+fn every_board_is_in_the_help_and_in_the_manual_page() {
+    let page = fs::read_to_string(concat!(env!("CARGO_MANIFEST_DIR"), "/mitrophel.1")).expect("the manual page");
+    let page = page.replace("\\-", "-");
+    for board in Board::ALL {
+        assert!(page.contains(&format!("{board} \" ({})", board.number())), "{board}");
+        for command in ["replay", "state", "map", "audit", "compare"] {
+            let help = run(&[command, "--help"]).text;
+            let line = help.lines().find(|line| line.trim_start().starts_with("--board NAME")).expect("the option");
+            assert!(line.contains(&format!(" {board}")), "{command} {board}: {line}");
+        }
+    }
+    assert!(page.contains("at the address that bits 31:12 of PGTBL_CTL hold"));
 }
 
 #[test]

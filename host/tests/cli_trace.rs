@@ -296,6 +296,30 @@ fn a_listing_leaves_out_what_management_mode_writes_into_protected_memory() {
     assert!(run_with(&["asm", "-"], &shown.out).out == records);
 }
 
+/// On a board with the table in main memory, an entry is a word of it. A list does not name its board.
+#[test]
+fn a_listing_leaves_out_entries_whose_words_are_in_protected_memory() {
+    let table = "config write dev0.SMRAM 44h\nconfig write dev1.MMADR F0000000h\nconfig write dev1.PCICMD 0002h\n\
+                 write PGTBL_CTL 0009F001h\n";
+    // The last three are past A0000h.
+    let entries = "entries 1022..1026 5678000h\n";
+    let later = "config write dev0.SMRAM 4Eh\n";
+    let listed = |trace: &str, options: &[&str]| {
+        let records = run_with(&["asm", "-"], trace.as_bytes()).out;
+        let run = run_with(&[&["disasm", "--no-comments"], options, &["-"]].concat(), &records);
+        assert_eq!((run.status, run.errors.as_str()), (DONE, ""));
+        run.text
+    };
+    let trace = format!("{table}{entries}{later}");
+    let redacted: String = (1024..=1026).map(|entry| format!("write GTT[{entry}] \u{B7}\u{B7}\n")).collect();
+    assert_eq!(listed(&trace, &[]), format!("{table}entries 1022..1023 5678000h\n{redacted}{later}"));
+    assert_eq!(listed(&trace, &["--show-protected"]), trace);
+    // Never protected, or elsewhere.
+    for trace in [format!("{table}{entries}"), trace.replace("0009F001h", "0008F001h")] {
+        assert_eq!(listed(&trace, &[]), trace);
+    }
+}
+
 /// Nor does a record that breaks the layout show what it was to write.
 #[test]
 fn a_raw_line_leaves_out_what_was_meant_for_protected_memory() {
