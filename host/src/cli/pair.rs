@@ -160,19 +160,20 @@ impl Pair {
             let heard = std::mem::take(hub.observer());
             let guard = Guard { hub: &hub, guarded: &self.guarded };
             let secret = guard.hides_value(&record, &answer, &heard, bases);
-            let secret_word = heard.looked_up().is_some_and(|word| guard.has(word.address));
+            let secret_word = heard.looked_up().map(|word| guard.has(word.address));
             if answer != beside {
                 // The proved call may have reached what the reference keeps shut.
                 let leaked = match answer.target() {
                     Some(Target::Memory) => hub.protected(answer.address),
-                    Some(Target::MemoryMapped) => heard.word.is_some_and(|word| guard.has(word.address)),
+                    Some(Target::MemoryMapped) => guard.has(guard.meant(&record, bases)),
                     _ => false,
                 };
                 let value = self.hidden || secret || leaked;
-                let page = self.hidden && heard.looked_up().is_some() || secret_word;
+                let by_word = self.board.table_in_memory() && heard.rule == Some(Rule::Window);
+                let page = by_word && (self.hidden || secret_word != Some(false));
                 return Err(different_answers(index, &record, bases, [&answer, &beside], Hidden { value, page }));
             }
-            let secret_page = secret_word && names_a_page(&answer, &heard);
+            let secret_page = secret_word == Some(true) && names_a_page(&answer, &heard);
             let Heard { rule, protected, word, .. } = heard;
             let now = register_now(&mut hub, &record, &answer);
             each(&Step { index, record, answer, rule, protected, secret, secret_page, word, bases, now, hub: &hub })?;
@@ -230,7 +231,7 @@ impl Guard<'_, '_> {
         }
     }
 
-    /// The place that a write was meant for: a table word in main memory, the memory that the HSEG stands for, or its
+    /// The place that an access was meant for: a table word in main memory, the memory that the HSEG stands for, or its
     /// own address.
     fn meant(&self, record: &Record, bases: Bases) -> u64 {
         let entry = bases.register_offset(record.address).and_then(names::entry_at);
@@ -412,7 +413,7 @@ mod tests {
         let key: [u8; 4] = 0x005A_5001_u32.to_le_bytes();
         let accesses: [(&str, Call); 3] = [
             ("read4 WINDOW+ABCh", wrong::translating),
-            ("write4 WINDOW+ABCh 7", wrong::translating),
+            ("smm write4 WINDOW+ABCh 7", wrong::translating),
             ("read GTT[1]", wrong::reading),
         ];
         for (access, call) in accesses {

@@ -651,7 +651,7 @@ mod tests {
     }
 
     /// A hub with its table in main memory, at the base that PGTBL_CTL is given, in a memory of 8 MiB.
-    fn table_in_memory(smram: u32, base: u32, words: &[(usize, u32)], guarded: &[Range<u32>]) -> Table {
+    fn table_in_memory(smram: u32, base: u32, words: &[(usize, u32)], guarded: Range<u32>) -> Table {
         let (mut memory, mut table) = (vec![0; 8 << 20], Box::new([0; TABLE_WORDS]));
         for &(at, word) in words {
             memory[at..at + 4].copy_from_slice(&word.to_le_bytes());
@@ -662,7 +662,7 @@ mod tests {
         for record in &records {
             assert_eq!(hub.answer(record).code, 0);
         }
-        Table::of(&hub, guarded)
+        Table::of(&hub, &[guarded])
     }
 
     /// Words that are refused and words that are not for everybody are told by range, whatever is in them.
@@ -671,17 +671,17 @@ mod tests {
         let words = [(0x9_FFF8, 0x10_0001), (0x9_FFFC, 0xC010_1FF9), (0xA_0000, 0x10_2001), (0xA_0FFC, 0x10_3001)];
         let mapping = |first, last, found| Mapping { first, last, found };
         let pages = Found::Pages { page: 0x10_0000, kind: 0, reach: Reach::Reached };
-        let shut = table_in_memory(0x4C, 0x9_F001, &words, &[0xA_0000..0xC_0000]);
+        let shut = table_in_memory(0x4C, 0x9_F001, &words, 0xA_0000..0xC_0000);
         let expected = [mapping(1022, 1023, pages), mapping(1024, 16383, Found::Refused(Refusal::PageProtected))];
         assert_eq!(shut, Table { translation: true, home: Some(0x9_F000), mappings: expected.to_vec() });
         assert_eq!(shut.places(&expected[1]), Some((0xA_0000, 0xA_EFFF)));
         assert_eq!((shut.home(), shut.refusal()), (Some((0x9_F000, 0xA_EFFF)), None));
         // Open now, and protected at another time.
-        let open = table_in_memory(0x44, 0x9_F000, &words, &[0xA_0000..0xC_0000]);
+        let open = table_in_memory(0x44, 0x9_F000, &words, 0xA_0000..0xC_0000);
         assert_eq!(open.mappings, [mapping(1022, 1023, pages), mapping(1024, 16383, Found::Hidden)]);
         assert!(!open.translation);
         // Never protected.
-        let never = table_in_memory(0x44, 0x9_F000, &words, &[]);
+        let never = table_in_memory(0x44, 0x9_F000, &words, 0..0);
         let last = mapping(2047, 2047, Found::Pages { page: 0x10_3000, kind: 0, reach: Reach::Reached });
         assert_eq!(never.mappings, [mapping(1022, 1024, pages), last]);
     }
@@ -699,12 +699,12 @@ mod tests {
             ),
             (0x40, 0xFFFF_F000, Refusal::PageAboveMemory, "FFFFF000h-10000EFFFh (PGTBL_CTL), at or above TOM: "),
         ] {
-            let table = table_in_memory(smram, base, &[], &[]);
+            let table = table_in_memory(smram, base, &[], 0..0);
             assert_eq!(table.refusal(), Some(refusal));
             let line = table.line().expect("it is in main memory");
             assert!(line.contains(part), "{line}");
         }
-        let reached = table_in_memory(0x4C, 0x20_0001, &[], &[]);
+        let reached = table_in_memory(0x4C, 0x20_0001, &[], 0..0);
         assert_eq!((reached.refusal(), reached.mappings.len()), (None, 0));
         let line = "Translation table: in main memory, 200000h-20FFFFh (PGTBL_CTL).";
         assert_eq!(reached.line().as_deref(), Some(line));
@@ -715,7 +715,7 @@ mod tests {
     #[test]
     fn of_a_long_table_in_main_memory_some_lines_are_shown() {
         let words: Vec<(usize, u32)> = (0..16_384).map(|word| (0x20_0000 + 4 * word, 0x10_0001)).collect();
-        let table = table_in_memory(0x40, 0x20_0001, &words, &[]);
+        let table = table_in_memory(0x40, 0x20_0001, &words, 0..0);
         let (shown, left) = table.shown();
         assert_eq!((shown.len(), left, table.mappings.len()), (64, 16_320, 16_384));
         let private = Table { home: None, ..table };

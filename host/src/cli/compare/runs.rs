@@ -154,7 +154,7 @@ impl Scope {
 pub struct State {
     /// Each with its name.
     pub registers: Vec<(String, u32)>,
-    /// Empty where the table is in main memory: its words in unprotected memory are among the unprotected bytes.
+    /// The private one. Of a table in main memory the words in unprotected memory are among the unprotected bytes.
     pub table: Vec<u32>,
 }
 
@@ -169,8 +169,7 @@ impl State {
             let named = names::mapped_at(offset).zip(hub.register(offset));
             registers.extend(named.map(|((name, _, _), value)| (name, value)));
         }
-        let table = if hub.board().table_in_memory() { Vec::new() } else { hub.table().to_vec() };
-        State { registers, table }
+        State { registers, table: hub.table().to_vec() }
     }
 
     /// The first register or table word that differs, with both values.
