@@ -184,8 +184,9 @@ impl Night<'_> {
             let answers = engine.replay(&records).map_err(|failure| failure.in_file(&source.name()))?;
             for (at, answer) in record::decode_answers(&answers).enumerate() {
                 tally.count(&answer);
-                if answer.refusal().is_some_and(|refusal| audit.deny.contains(&refusal)) {
-                    tally.deny(&answer, || calls.place(at));
+                if let Some(refusal) = answer.refusal().filter(|refusal| audit.deny.contains(refusal)) {
+                    let reason = names::refusal_reason(refusal, audit.board.table_in_memory());
+                    tally.deny(|| format!("{}: refused {}: {reason}", calls.place(at), refusal.code()));
                 }
             }
             tally.calls += 1;
@@ -396,12 +397,10 @@ impl Tally {
         self.targets[usize::from(answer.target)] += 1;
     }
 
-    fn deny(&mut self, answer: &Answer, place: impl FnOnce() -> String) {
+    /// Counts a denied refusal, which is told in these words if it is the first.
+    fn deny(&mut self, words: impl FnOnce() -> String) {
         self.denied += 1;
-        if self.first_denied.is_none() {
-            let refusal = answer.refusal().map(|refusal| refusal.to_string()).unwrap_or_default();
-            self.first_denied = Some(format!("{}: {refusal}", place()));
-        }
+        self.first_denied.get_or_insert_with(words);
     }
 
     /// Names the first denied refusal of a file, and counts the others.

@@ -204,7 +204,7 @@ fn named(text: &str) -> Option<&'static Code> {
 fn list() -> String {
     CODES
         .iter()
-        .map(|code| paragraph(&format!("{:>2} {:<15}", code.refusal.code(), code.name()), code.refusal.reason()))
+        .map(|code| paragraph(&format!("{:>2} {:<15}", code.refusal.code(), code.name()), code.reason()))
         .collect()
 }
 
@@ -225,8 +225,13 @@ impl Code {
         }
     }
 
+    /// On every board.
+    fn reason(&self) -> &'static str {
+        names::refusal_reason(self.refusal, true)
+    }
+
     fn text(&self) -> String {
-        let heading = paragraph(&format!("{} {}:", self.refusal.code(), self.name()), self.refusal.reason());
+        let heading = paragraph(&format!("{} {}:", self.refusal.code(), self.name()), self.reason());
         let when = paragraph("When  ", self.when);
         let (order, answer) = (self.order(), paragraph("Answer", self.answer()));
         format!("{heading}\n{when}\n{order}\n{answer}\n{}", self.example())

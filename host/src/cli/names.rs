@@ -24,6 +24,16 @@ pub fn refusal_name(refusal: Refusal) -> &'static str {
     REFUSALS.iter().find(|(own, _)| *own == refusal).map_or("", |(_, name)| name)
 }
 
+/// The reason of a refusal, where nothing more is known of it than whether the table is in main memory: then a word of
+/// it gives codes 6 and 7, too.
+pub const fn refusal_reason(refusal: Refusal, table_in_memory: bool) -> &'static str {
+    match refusal {
+        Refusal::PageProtected if table_in_memory => "entry's page or table word is protected",
+        Refusal::PageAboveMemory if table_in_memory => "entry's page or table word is at or above the top of memory",
+        refusal => refusal.reason(),
+    }
+}
+
 /// The refusal with this short name or number.
 pub fn refusal_named(text: &str) -> Option<Refusal> {
     let matches =
