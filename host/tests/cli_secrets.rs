@@ -1,0 +1,84 @@
+//! Nothing that the program prints unasked depends on the key, wherever table, window and ring are aimed.
+
+mod cli;
+
+use cli::{run_with, DONE};
+use mitrophel::{trace, Board};
+
+/// splitmix64
+struct Random(u64);
+
+impl Random {
+    fn next(&mut self) -> u64 {
+        self.0 = self.0.wrapping_add(0x9E37_79B9_7F4A_7C15);
+        let z = (self.0 ^ (self.0 >> 30)).wrapping_mul(0xBF58_476D_1CE4_E5B9);
+        let z = (z ^ (z >> 27)).wrapping_mul(0x94D0_49BB_1331_11EB);
+        z ^ (z >> 31)
+    }
+
+    fn below(&mut self, bound: u64) -> u64 {
+        ((self.next() >> 32) * bound) >> 32
+    }
+
+    fn pick<'a>(&mut self, from: &[&'a str]) -> &'a str {
+        from[self.below(from.len() as u64) as usize]
+    }
+}
+
+/// What a key is written to: each place is protected at the end of the list, and is a place of the table's words.
+const KEYS: &[&str] = &["A0000h", "A0004h", "A0FFCh", "A1000h", "B0000h", "700000h", "700004h", "7FFFFCh"];
+const TABLES: &[&str] = &["A0001h", "9F001h", "A0000h", "B0001h", "700001h", "6FF001h", "7FF001h", "200001h"];
+const SMRAMS: &[&str] = &["40h", "44h", "48h", "4Ch", "50h", "60h", "74h", "7Ch", "BCh"];
+const BASES: &str =
+    "config write dev1.GMADR C0000000h\nconfig write dev1.MMADR F0000000h\nconfig write dev1.PCICMD 2\n";
+
+/// A list in which `KEY` is what management mode writes.
+fn list(random: &mut Random) -> String {
+    let mut list = format!("config write dev0.SMRAM {}\n{BASES}", random.pick(&["44h", "4Ch", "7Ch", "BCh"]));
+    for _ in 0..60 {
+        let entry = [0, 1, 2, 1022, 1023, 1024, 1025, 2048][random.below(8) as usize];
+        let offset = 4096 * entry + 4 * random.below(1024);
+        let (mode, who) = (random.pick(&["", "smm "]), random.pick(&["", "smm ", "master "]));
+        list += &match random.below(12) {
+            0 => format!("config write dev0.SMRAM {}\n", random.pick(SMRAMS)),
+            1 => format!("write PGTBL_CTL {}\n", random.pick(TABLES)),
+            2 => format!("smm write4 {} KEY\n", random.pick(KEYS)),
+            3 => format!("{mode}read GTT[{entry}]\n"),
+            4 => {
+                format!("{mode}write GTT[{entry}] {}\n", random.pick(&["0", "A0001h", "100001h", "200001h", "700001h"]))
+            }
+            5 => format!("{who}read4 {}\n", random.pick(KEYS)),
+            6 => format!("write LP_RING_START {:X}h\nwrite LP_RING_LENGTH 1001h\n", 4096 * entry),
+            7 => format!("write LP_RING_TAIL {:X}h\nrun {}\n", 8 * random.below(1024), random.below(2000)),
+            8 => format!("{mode}write4 WINDOW+{offset:X}h 0\n"),
+            9 if random.below(3) == 0 => format!("reset\nconfig write dev0.SMRAM {}\n{BASES}", random.pick(SMRAMS)),
+            _ => format!("{mode}read{} WINDOW+{offset:X}h\n", random.pick(&["1", "2", "4"])),
+        };
+    }
+    list + "config write dev0.SMRAM 7Ch\n"
+}
+
+/// Two keys that are good entries, and name pages that nothing else is in.
+#[test]
+fn what_is_printed_does_not_depend_on_the_key() {
+    let commands: [&[&str]; 5] = [&["replay"], &["replay", "--json"], &["state"], &["map"], &["disasm"]];
+    let mut hidden = 0;
+    for seed in 0..60 {
+        let list = list(&mut Random(seed));
+        let keys = ["00345001h", "00346001h"];
+        let [first, second] = keys
+            .map(|key| trace::assemble(&list.replace("KEY", key)).unwrap_or_else(|errors| panic!("{errors}")).records);
+        let board = Board::ALL[seed as usize % 4].name();
+        for command in commands {
+            let options: &[&str] = if command == ["disasm"] { &["-"] } else { &["--board", board, "--binary", "-"] };
+            let [one, two] = [&first, &second].map(|records| run_with(&[command, options].concat(), records));
+            assert_eq!((one.status, one.errors.as_str()), (DONE, ""), "seed {seed}, board {board}");
+            for (one, two) in one.text.lines().zip(two.text.lines()) {
+                assert_eq!(one, two, "seed {seed}, board {board}, {command:?}");
+            }
+            assert_eq!(one.out, two.out, "seed {seed}, board {board}, {command:?}");
+            hidden += one.text.matches("memory \u{B7}\u{B7}").count();
+        }
+    }
+    assert!(hidden > 20, "{hidden}");
+}
