@@ -376,6 +376,21 @@ fn entries_in_memory_that_is_protected_at_some_time_are_not_shown() {
     }
 }
 
+/// The registers may stand over protected memory, which comes before them: a write there is none of an entry.
+#[test]
+fn registers_over_protected_memory_show_no_value_of_it() {
+    let trace = "config write dev0.SMRAM 70h\nconfig write dev1.MMADR 700000h\nconfig write dev1.PCICMD 2\n\
+                 smm write4 GTT[5] 4B455921h\nsmm write3 GTT[5] 4B455921h\nwrite3 GTT[5] 4B455921h\nsmm read GTT[5]\n";
+    for board in ["82810", "82810-main"] {
+        let words = ["replay", "--board", board, "-"];
+        let hidden = run_with(&words, trace.as_bytes());
+        assert_eq!((hidden.status, hidden.errors.as_str()), (DONE, ""));
+        assert!(!hidden.text.contains("4B455921"), "{}", hidden.text);
+        let shown = run_with(&[&words[..], &["--show-protected"]].concat(), trace.as_bytes());
+        assert_eq!(shown.text.matches("4B455921h").count(), 5, "{}", shown.text);
+    }
+}
+
 #[test]
 fn a_dump_is_whole_and_private_or_redacted_and_open() {
     let folder = folder("dump");

@@ -165,7 +165,7 @@ impl Pair {
                 // The proved call may have reached what the reference keeps shut.
                 let leaked = match answer.target() {
                     Some(Target::Memory) => hub.protected(answer.address),
-                    Some(Target::MemoryMapped) => guard.has(guard.meant(&record, bases)),
+                    Some(Target::MemoryMapped) => guard.has_what_is_meant(&record, bases),
                     _ => false,
                 };
                 let value = self.hidden || secret || leaked;
@@ -222,8 +222,7 @@ impl Guard<'_, '_> {
         match record.kind() {
             Some(Kind::Run) if answer.refusal() != Some(Refusal::UnknownInstruction) => heard.protected,
             Some(kind) if kind.is_write() && (answer.code != 0 || record.is_management() && heard.last.is_none()) => {
-                let start = self.meant(record, bases);
-                self.has(start) || self.has(start + 3)
+                self.has_what_is_meant(record, bases)
             }
             // It may have read a table word, which is not its value.
             Some(Kind::DataRead | Kind::CodeRead) if answer.code != 0 => false,
@@ -231,16 +230,17 @@ impl Guard<'_, '_> {
         }
     }
 
-    /// The place that an access was meant for: a table word in main memory, the memory that the HSEG stands for, or its
-    /// own address.
-    fn meant(&self, record: &Record, bases: Bases) -> u64 {
+    /// Whether an access may have been meant for such memory: its own address or, of a register of the table, the
+    /// word's in main memory.
+    fn has_what_is_meant(&self, record: &Record, bases: Bases) -> bool {
+        let own = match record.address {
+            // The HSEG stands for A0000h to BFFFFh.
+            high @ 0xFEEA_0000..=0xFEEB_FFFF => high - 0xFEEA_0000 + 0xA_0000,
+            address => address,
+        };
         let entry = bases.register_offset(record.address).and_then(names::entry_at);
         let word = entry.and_then(|entry| self.hub.table_word_address(entry as usize));
-        word.unwrap_or(match record.address {
-            // The HSEG stands for A0000h to BFFFFh.
-            high @ 0xFEEA_0000..=0xFEEB_FFFF => u64::from(high - 0xFEEA_0000 + 0xA_0000),
-            address => address.into(),
-        })
+        word.into_iter().chain([own.into()]).any(|start| self.has(start) || self.has(start + 3))
     }
 }
 
