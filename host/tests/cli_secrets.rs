@@ -1,29 +1,11 @@
 //! Nothing that the program prints unasked depends on the key, wherever table, window and ring are aimed.
 
 mod cli;
+mod common;
 
 use cli::{run_with, DONE};
+use common::Random;
 use mitrophel::{trace, Board};
-
-/// splitmix64
-struct Random(u64);
-
-impl Random {
-    fn next(&mut self) -> u64 {
-        self.0 = self.0.wrapping_add(0x9E37_79B9_7F4A_7C15);
-        let z = (self.0 ^ (self.0 >> 30)).wrapping_mul(0xBF58_476D_1CE4_E5B9);
-        let z = (z ^ (z >> 27)).wrapping_mul(0x94D0_49BB_1331_11EB);
-        z ^ (z >> 31)
-    }
-
-    fn below(&mut self, bound: u64) -> u64 {
-        ((self.next() >> 32) * bound) >> 32
-    }
-
-    fn pick<'a>(&mut self, from: &[&'a str]) -> &'a str {
-        from[self.below(from.len() as u64) as usize]
-    }
-}
 
 /// What a key is written to: each place is protected at the end of the list, and is a place of the table's words.
 const KEYS: &[&str] = &["A0000h", "A0004h", "A0FFCh", "A1000h", "B0000h", "700000h", "700004h", "7FFFFCh"];
@@ -36,7 +18,7 @@ const BASES: &str =
 fn list(random: &mut Random) -> String {
     let mut list = format!("config write dev0.SMRAM {}\n{BASES}", random.pick(&["44h", "4Ch", "7Ch", "BCh"]));
     for _ in 0..60 {
-        let entry = [0, 1, 2, 1022, 1023, 1024, 1025, 2048][random.below(8) as usize];
+        let entry = random.pick(&[0, 1, 2, 1022, 1023, 1024, 1025, 2048]);
         let offset = 4096 * entry + 4 * random.below(1024);
         let (mode, who) = (random.pick(&["", "smm "]), random.pick(&["", "smm ", "master "]));
         list += &match random.below(12) {
@@ -64,7 +46,7 @@ fn what_is_printed_does_not_depend_on_the_key() {
     let commands: [&[&str]; 5] = [&["replay"], &["replay", "--json"], &["state"], &["map"], &["disasm"]];
     let mut hidden = 0;
     for seed in 0..60 {
-        let list = list(&mut Random(seed));
+        let list = list(&mut Random::new(seed));
         let keys = ["00345001h", "00346001h"];
         let [first, second] = keys
             .map(|key| trace::assemble(&list.replace("KEY", key)).unwrap_or_else(|errors| panic!("{errors}")).records);

@@ -11,12 +11,13 @@ use Rattle.gmch.specs.Choice.{pick}
 use Rattle.gmch.specs.Words.{within, loadLe, storeLe}
 use Rattle.gmch.specs.Records.{reply}
 use Rattle.gmch.specs.Config.{Placed, registerWritten}
-use Rattle.gmch.specs.Machine.{Machine, machine}
+use Rattle.gmch.specs.Machine.{Machine, machine, withMain}
 use Rattle.gmch.specs.Mapped.{isEntry, isFence, mappedValue, regsWritten, mappedWritten, stored, tableWritten}
-use Rattle.gmch.specs.Access.{Out, act}
+use Rattle.gmch.specs.Access.{Out, done, act}
 use Rattle.gmch.specs.declared.State.{State}
 use Rattle.gmch.specs.declared.Access.{Access}
 use Rattle.gmch.specs.declared.Answer.{Answer}
+use Rattle.gmch.specs.declared.Target.{Target}
 use Rattle.gmch.specs.declared.Target.the-variants.{Memory, Register, Mapped, Entry}
 use Rattle.gmch.proofs.Choice.{choices, pick-elim}
 use Rattle.gmch.proofs.Words.{within-from}
@@ -50,23 +51,25 @@ module _ (s : State) (table main : List ℕ) (a : Access) (v : ℕ) where
   abbrev x : Machine
   x = machine s table main
 
+  -- of w bytes at p, with d to be stored there
+  bytes-done : (t : Target) (w p d y : ℕ) (main′ : List ℕ) → y ≡ pick (a .write) 0 (loadLe w p main) → main′ ≡ pick (a .write) (storeLe w p d main) main
+      → out s table main′ (reply t y) ≡ pick (a .write) (done (withMain x (storeLe w p d main)) t 0) (done x t (loadLe w p main))
+  bytes-done t w p d y main′ e f = by (a .write) e f
+    where
+      by : (k : Bool) → y ≡ pick k 0 (loadLe w p main) → main′ ≡ pick k (storeLe w p d main) main
+          → out s table main′ (reply t y) ≡ pick k (done (withMain x (storeLe w p d main)) t 0) (done x t (loadLe w p main))
+      by true e f = rw (e, f) (simp choices)
+      by false e f = rw (e, f) (simp choices)
+
   pub memory-done : (p y : ℕ) (main′ : List ℕ) → y ≡ pick (a .write) 0 (loadLe (a .width) p main) → main′ ≡ pick (a .write) (storeLe (a .width) p v main) main
       → out s table main′ (reply (Memory p) y) ≡ act x a v (Memory p)
   unfolding act
-  memory-done p y main′ e f = by (a .write) refl
-    where
-      by : (w : Bool) → a .write ≡ w → out s table main′ (reply (Memory p) y) ≡ act x a v (Memory p)
-      by true h = rw (e, f, h) (simp choices)
-      by false h = rw (e, f, h) (simp choices)
+  memory-done p = bytes-done (Memory p) (a .width) p v
 
   pub entry-done : (o p y : ℕ) (main′ : List ℕ) → y ≡ pick (a .write) 0 (loadLe 4 p main) → main′ ≡ pick (a .write) (storeLe 4 p (stored v) main) main
       → out s table main′ (reply (Entry o p) y) ≡ act x a v (Entry o p)
   unfolding act
-  entry-done o p y main′ e f = by (a .write) refl
-    where
-      by : (w : Bool) → a .write ≡ w → out s table main′ (reply (Entry o p) y) ≡ act x a v (Entry o p)
-      by true h = rw (e, f, h) (simp choices)
-      by false h = rw (e, f, h) (simp choices)
+  entry-done o p = bytes-done (Entry o p) 4 p (stored v)
 
   pub mapped-done : (o y : ℕ) (table′ : List ℕ) → y ≡ pick (a .write) 0 (mappedValue (s .fences) (s .regs) table o)
       → table′ ≡ pick (a .write) (tableWritten table o v) table
