@@ -58,7 +58,7 @@ module _ (m : Map) (cf8 : ℕ) (fences : List ℕ) (control : ℕ) (look : ℕ �
   abbrev t : Target
   t = targetIn m cf8 fences control look kind a
 
-  misfit-refused : fitsWord (a .width) (a .address) ≡ false → t ≡ Refused 2
+  misfit-refused : fitsWord (a .width) (a .address) ≡ false → t ≡ Refused 2 0
   unfolding targetIn
   misfit-refused e = simp (e, choices)
 

@@ -65,7 +65,7 @@ InWindow (Window o) = o < 0x4000000
 
 -- those of an access of this width, which is 4 for an entry of the table
 abbrev pub Reachable : ℕ → ℕ → Target → Type 0
-Reachable tom width (Refused c) = Unit {0}
+Reachable tom width (Refused c o) = Unit {0}
 Reachable tom width (Memory p) = Width width × (p + width ≤ tom)
 Reachable tom width (Register n) = Placed n width
 Reachable tom width (Hub p) = Unit {0}

@@ -77,7 +77,7 @@ fn entry_target(m: Map, control: u32, o: u32) -> Target
     let i = mapped::entry_number(o);
     match graphics::word_reach(m, control, i as u32) {
         Reach::At(p) => Target::Entry(o, p),
-        Reach::Denied(c) => Target::Refused(c),
+        Reach::Denied(c, n) => Target::Refused(c, n),
     }
 }
 
@@ -98,7 +98,7 @@ fn resolve(
         Route::To(t) => t,
         Route::Registers(o) => {
             if mapped::misfit(o, a.width) {
-                return Target::Refused(10);
+                return Target::Refused(10, 0);
             }
             if (2 <= m.kind) & mapped::is_entry(o) {
                 return entry_target(m, control, o);
@@ -109,7 +109,7 @@ fn resolve(
             let all = *fences;
             match graphics::window(m, all, control, table, memory, o) {
                 Reach::At(p) => Target::Memory(p),
-                Reach::Denied(c) => Target::Refused(c),
+                Reach::Denied(c, n) => Target::Refused(c, n),
             }
         }
     }
@@ -130,7 +130,7 @@ pub fn target_of(
     ensures { λ t. ⌜ t ≡ targetIn m cf8 (now (fences .entry)) control (lookIn m control (now (table .entry)) (lent (now (memory .entry)))) kind a ⌝ }
 {
     if !records::fits_word(a.width, a.address) {
-        return Target::Refused(2);
+        return Target::Refused(2, 0);
     }
     if kind <= 2 {
         return config::port_target(cf8, m.smram, a.width, a.address);
@@ -239,7 +239,7 @@ pub fn act<'a>(
             done(t, x, Effect::Keep)
         }
         Target::HubError(_) => done(t, 0, Effect::Rarely(Rare::Error)),
-        Target::Refused(_) => done(t, 0, Effect::Keep),
+        Target::Refused(_, _) => done(t, 0, Effect::Keep),
         Target::Hub(_) => done(t, 0, Effect::Keep),
         Target::Vga(_) => done(t, 0, Effect::Keep),
         Target::Entry(_, p) => {

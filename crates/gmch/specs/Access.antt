@@ -28,18 +28,18 @@ use Rattle.gmch.specs.declared.Route.the-variants.{To, Registers, Window
 
 abbrev pub reached : Reach → Target
 reached (At p) = Memory p
-reached (Denied c) = Refused c
+reached (Denied c o) = Refused c o
 
 -- an entry of a table in main memory: codes 7, 6
 abbrev pub entryTarget : ℕ → Reach → Target
 entryTarget o (At p) = Entry o p
-entryTarget o (Denied c) = Refused c
+entryTarget o (Denied c n) = Refused c n
 
 -- after routing: 10, then a table word's 7, 6; or 9, 3, 4, 5, 7, 6, with a table word's 7, 6 after 3
 unfoldable pub resolved : Map → List ℕ → ℕ → (ℕ → Look) → Access → Route → Target
 resolved m fences control look a (To t) = t
 resolved m fences control look a (Registers o) =
-    pick (misfit o (a .width)) (Refused 10)
+    pick (misfit o (a .width)) (Refused 10 0)
     (pick (inMemory m and isEntry o) (entryTarget o (wordReach m control (entryNumber o)))
     (Mapped o))
 resolved m fences control look a (Window o) = reached (windowReach m fences control look o)
@@ -47,7 +47,7 @@ resolved m fences control look a (Window o) = reached (windowReach m fences cont
 -- an access of kinds 1 to 7: 2; ports; the processor; hub masters
 unfoldable pub targetIn : Map → ℕ → List ℕ → ℕ → (ℕ → Look) → ℕ → Access → Target
 targetIn m cf8 fences control look kind a =
-    pick (not (fitsWord (a .width) (a .address))) (Refused 2)
+    pick (not (fitsWord (a .width) (a .address))) (Refused 2 0)
     (pick (leb kind 2) (portTarget cf8 (m .smram) (a .width) (a .address))
     (pick (leb kind 5) (resolved m fences control look a (routeOf m a))
     (masterTarget m a)))
@@ -71,7 +71,7 @@ done x t v = record { after = x; answer = reply t v }
 
 -- a read, or a write of v
 unfoldable pub act : Machine → Access → ℕ → Target → Out
-act x a v (Refused c) = done x (Refused c) 0
+act x a v (Refused c o) = done x (Refused c o) 0
 act x a v (Memory p) =
     pick (a .write)
     (done (withMain x (storeLe (a .width) p v (x .memories .main))) (Memory p) 0)
@@ -100,7 +100,7 @@ pub data Location : Type 0 where
   Main : ℕ → Location
 
 unfoldable pub locationOf : Target → Location
-locationOf (Refused c) = Nowhere
+locationOf (Refused c o) = Nowhere
 locationOf (Memory p) = Main p
 locationOf (Register n) = Nowhere
 locationOf (Hub p) = Nowhere

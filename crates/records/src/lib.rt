@@ -114,7 +114,7 @@ pub fn reply(t: Target, v: u32) -> Answer
     ensures { λ r. ⌜ r ≡ reply t v ⌝ }
 {
     match t {
-        Target::Refused(c) => answer(c, 0, 0, v),
+        Target::Refused(c, o) => answer(c, 0, o, v),
         Target::Memory(p) => answer(0, 1, p, v),
         Target::Register(n) => answer(0, 2, n, v),
         Target::Hub(p) => answer(0, 3, p, v),

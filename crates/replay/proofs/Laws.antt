@@ -25,7 +25,7 @@ use Rattle.access.proofs.Laws.{out}
 -- ---- a record, by its kind
 
 module _ (b : Board) (x : Machine) (r : Record) where
-  pub malformed : not (wellFormed r) ≡ true → done x (Refused 13) 0 ≡ oneRecord b x r
+  pub malformed : not (wellFormed r) ≡ true → done x (Refused 13 0) 0 ≡ oneRecord b x r
   unfolding oneRecord
   malformed e = simp (e, choices)
 

@@ -89,7 +89,7 @@ pub fn decide<'a>(
     ensures { λ d. ⌜ Decides (stateOf cf8 (now (dev0 .entry)) (now (dev1 .entry)) (now (fences .entry)) regs) (now (table .exit)) (now (memory .exit)) d (λ s. oneRecord b (machine s (now (table .entry)) (now (memory .entry))) r) ⌝ }
 {
     if !records::well_formed(r) {
-        return access::done(Target::Refused(13), 0, Effect::Keep);
+        return access::done(Target::Refused(13, 0), 0, Effect::Keep);
     }
     if r.kind == 8 {
         let q = ring::run(m, table, memory, r.value, regs);

@@ -70,7 +70,7 @@ fn entry(v: u32) {
             text(b" reaches ");
             hex(p);
         }
-        Reach::Denied(c) => {
+        Reach::Denied(c, _) => {
             text(b" is refused with code ");
             io::print_decimal(1, c as u64);
         }

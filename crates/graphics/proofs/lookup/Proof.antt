@@ -30,7 +30,7 @@ returns-2 c = let t = c .before .before in ap Word (c .load4 .ensures) ∙ look-
 
 returns-3 : tie.Need-returns-3
 returns-3 c =
-    look-denied _ _ _ _ _ (homed (c .before .before .before .before)) _ (sym (c .before .before .before .word-reach .ensures) ∙ c .before .c .given .1)
+    look-denied _ _ _ _ _ (homed (c .before .before .before .before)) _ _ (sym (c .before .before .before .word-reach .ensures) ∙ c .before .c .given .1)
 
 pub lookup-spec : {M : Type 1} → statement M
 lookup-spec =

@@ -46,7 +46,7 @@ returns-2 c =
 
 returns-3 : tie.Need-returns-3
 returns-3 c =
-    fetch-denied _ _ _ _ _ (inside (c .before .before .before .before .before)) _ (sym (translated (c .before .before .before)) ∙ c .before .c .given .1)
+    fetch-denied _ _ _ _ _ (inside (c .before .before .before .before .before)) _ _ (sym (translated (c .before .before .before)) ∙ c .before .c .given .1)
 
 pub fetch-spec : {M : Type 1} → statement M
 fetch-spec =
