@@ -580,7 +580,9 @@ pub struct Answer {
     pub line: u8,
     /// Byte 3: zero.
     pub reserved: u8,
-    /// Bytes 4-7: where the access went, or the ring's head register after a run.
+    /// Bytes 4-7: where the access went, or the ring's head register after a run. A refused access has zero here,
+    /// except that an access through the window refused with 3 to 7 or 9 has its byte offset in the window: for 9 the
+    /// one before fencing, for the others the one after.
     pub address: u32,
     /// Bytes 8-11: the value read, zero-extended.
     pub value: u32,

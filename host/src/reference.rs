@@ -120,6 +120,32 @@ struct Access {
     data: Option<u32>,
 }
 
+/// Why an access is refused, and where: request 5 of document 02, "Say where it was refused". Fence and translation give
+/// the window offset that they were handed, "before fencing for 9, after fencing for the others"; every other refusal
+/// has 0.
+#[derive(Clone, Copy)]
+struct Refused {
+    refusal: Refusal,
+    offset: u32,
+}
+
+impl Refused {
+    /// "Any other refusal changes no register, table word or memory byte; its answer holds the code and the interrupt
+    /// line, all else zero", which request 5 amends: "shall put the window offset in the answer's address field". The
+    /// line is filled in at the end.
+    #[inline]
+    fn answer(self) -> Answer {
+        Answer { code: self.refusal.code(), address: self.offset, ..Answer::default() }
+    }
+}
+
+impl From<Refusal> for Refused {
+    #[inline]
+    fn from(refusal: Refusal) -> Refused {
+        Refused { refusal, offset: 0 }
+    }
+}
+
 /// The GMCH between two records.
 ///
 /// ```
@@ -280,10 +306,7 @@ impl<'m, O: Observer, F: Faults> Gmch<'m, O, F> {
     #[inline(always)]
     pub fn answer(&mut self, record: &Record) -> Answer {
         let line_before = self.line();
-        // "Any other refusal changes no register, table word or memory byte; its answer holds the
-        // code and the interrupt line, all else zero."
-        let mut answer =
-            self.carry_out(record).unwrap_or_else(|refusal| Answer { code: refusal.code(), ..Answer::default() });
+        let mut answer = self.carry_out(record).unwrap_or_else(Refused::answer);
         answer.line = u8::from(self.line());
         if self.wrong(Fault::LineBeforeAccess) {
             answer.line = u8::from(line_before);
@@ -297,7 +320,7 @@ impl<'m, O: Observer, F: Faults> Gmch<'m, O, F> {
 
     /// "Order: 13, 2, then routing".
     #[inline]
-    fn carry_out(&mut self, record: &Record) -> Result<Answer, Refusal> {
+    fn carry_out(&mut self, record: &Record) -> Result<Answer, Refused> {
         if self.wrong(Fault::WidthBeforeLayout) && record.kind().is_some_and(Kind::is_access) {
             self.check_width(record)?;
         }

@@ -100,7 +100,8 @@ impl<O: Observer, F: Faults> Gmch<'_, O, F> {
     /// The physical address of the word at the head; none where the ring is "not enabled (seen before
     /// code 11), or offsets equal". The codes come in the order "11, then empty check, then 8, 3, 4,
     /// 5, 7, 6", with 7 and 6 of a table word in main memory "after code 3". "A step fetches the word
-    /// at start + offset, unfenced."
+    /// at start + offset, unfenced." Of translation's refusal the offset is dropped: "Parser refusals keep the head
+    /// there."
     #[inline]
     fn next_word<const IN_MEMORY: bool>(&mut self) -> Result<Option<u32>, Refusal> {
         let Ring { tail, start, .. } = self.ring;
@@ -120,8 +121,11 @@ impl<O: Observer, F: Faults> Gmch<'_, O, F> {
         if offset >= window {
             return Err(Refusal::OutsideWindow);
         }
-        let offset = if self.wrong(Fault::FetchFenced) { self.fenced(offset)? } else { offset };
-        match self.translate::<IN_MEMORY>(offset) {
+        let offset = match self.wrong(Fault::FetchFenced) {
+            true => self.fenced(offset).map_err(|refused| refused.refusal)?,
+            false => offset,
+        };
+        match self.translate::<IN_MEMORY>(offset).map_err(|refused| refused.refusal) {
             Err(Refusal::PageProtected) if IN_MEMORY && self.wrong(Fault::FetchReadsProtectedWords) => {
                 self.translate_by(self.open_word(offset as usize / 4096), offset).map(Some)
             }

@@ -1,8 +1,8 @@
 //! Where an address goes, and access to main memory (document 01, "Where an address goes").
 
-use super::{reached, Access, Gmch, Lsmm, Observer, Rule, Smram, Touch, KIB};
+use super::{reached, Access, Gmch, Lsmm, Observer, Refused, Rule, Smram, Touch, KIB};
 use crate::faults::{Fault, Faults};
-use crate::record::{Answer, Refusal, Target};
+use crate::record::{Answer, Target};
 use std::ops::Range;
 
 /// Who makes an access, as far as routing looks at it.
@@ -32,7 +32,7 @@ enum Route {
 impl<O: Observer, F: Faults> Gmch<'_, O, F> {
     /// An access of the processor or of a hub master.
     #[inline]
-    pub(super) fn addressed(&mut self, access: Access, mode: Mode) -> Result<Answer, Refusal> {
+    pub(super) fn addressed(&mut self, access: Access, mode: Mode) -> Result<Answer, Refused> {
         let (rule, route) = match mode {
             Mode::Processor { management, code } => self.route_processor(access, management, code),
             Mode::Master => self.route_master(access.address),
@@ -46,7 +46,7 @@ impl<O: Observer, F: Faults> Gmch<'_, O, F> {
                 Ok(reached(Target::Hub, access.address, 0))
             }
             Route::Vga(offset) => Ok(reached(Target::Vga, offset, 0)),
-            Route::Registers(offset) => self.register_access(offset, access, mode),
+            Route::Registers(offset) => Ok(self.register_access(offset, access, mode)?),
             Route::Window(offset) => self.window_access(offset, access, mode),
         }
     }

@@ -1,7 +1,7 @@
 //! The window: fences and translation (document 01, "Table, fences, ring, interrupts").
 
 use super::routing::Mode;
-use super::{Access, Gmch, Observer, WordUse, KIB, MIB};
+use super::{Access, Gmch, Observer, Refused, WordUse, KIB, MIB};
 use crate::faults::{Fault, Faults};
 use crate::record::{Answer, Refusal};
 
@@ -79,11 +79,11 @@ impl Fence {
 
 impl<O: Observer, F: Faults> Gmch<'_, O, F> {
     /// A processor access through the window; the codes come in the order "9, 3, 4, 5, 7, 6", with 7 and 6 of a table
-    /// word in main memory "after code 3".
+    /// word in main memory "after code 3". A refusal has its window offset.
     #[inline]
-    pub(super) fn window_access(&mut self, offset: u32, access: Access, mode: Mode) -> Result<Answer, Refusal> {
+    pub(super) fn window_access(&mut self, offset: u32, access: Access, mode: Mode) -> Result<Answer, Refused> {
         if self.wrong(Fault::TranslationBeforeFence) && !self.translation_on() {
-            return Err(Refusal::TranslationOff);
+            return Err(Refused { refusal: Refusal::TranslationOff, offset });
         }
         let offset = self.fenced(offset)?;
         let management = matches!(mode, Mode::Processor { management: true, .. });
@@ -92,17 +92,21 @@ impl<O: Observer, F: Faults> Gmch<'_, O, F> {
             true => self.translate::<true>(offset),
         };
         let address = match translated {
-            Err(Refusal::PageProtected) if management && self.wrong(Fault::ManagementExemptInWindow) => {
-                entry_page(self.table_word(offset as usize / 4096)?) + offset % 4096
+            Err(refused @ Refused { refusal: Refusal::PageProtected, .. })
+                if management && self.wrong(Fault::ManagementExemptInWindow) =>
+            {
+                let entry = self.table_word(offset as usize / 4096).map_err(|_| refused)?;
+                entry_page(entry) + offset % 4096
             }
             result => result?,
         };
         Ok(self.memory_access(address, access))
     }
 
-    /// "Eight fences, processor window accesses only, lowest matching number wins".
+    /// "Eight fences, processor window accesses only, lowest matching number wins". Code 9 has "the offset before
+    /// fencing".
     #[inline]
-    pub(super) fn fenced(&self, offset: u32) -> Result<u32, Refusal> {
+    pub(super) fn fenced(&self, offset: u32) -> Result<u32, Refused> {
         let skip = self.wrong(Fault::IllFormedFenceSkipped);
         let mut matching = self.fences.iter().filter(|fence| fence.matches(offset) && !(skip && fence.ill_formed()));
         let fence = if self.wrong(Fault::HighestFenceWins) { matching.next_back() } else { matching.next() };
@@ -114,7 +118,7 @@ impl<O: Observer, F: Faults> Gmch<'_, O, F> {
             false => fence.ill_formed(),
         };
         if ill_formed {
-            Err(Refusal::FenceIllFormed)
+            Err(Refused { refusal: Refusal::FenceIllFormed, offset })
         } else if self.wrong(Fault::TileOfEightRows) {
             Ok(fence.tiled_in_rows(offset, 8))
         } else {
@@ -128,11 +132,17 @@ impl<O: Observer, F: Faults> Gmch<'_, O, F> {
         self.table_control & 1 != 0
     }
 
+    /// Where a graphics offset leads, or its refusal with this offset: "The translation's own result must carry it".
+    #[inline]
+    pub(super) fn translate<const IN_MEMORY: bool>(&mut self, offset: u32) -> Result<u32, Refused> {
+        self.look_up_page::<IN_MEMORY>(offset).map_err(|refusal| Refused { refusal, offset })
+    }
+
     /// "Graphics offset o reads entry o / 4096". The codes come in the order 3, then the entry's own 4, 5, 7, 6. Between
     /// them, where the table is in main memory, come 7 and 6 of the entry's word, "after code 3 for a lookup". The home
     /// is a parameter so that a run asks for it once and not at each step.
     #[inline]
-    pub(super) fn translate<const IN_MEMORY: bool>(&mut self, offset: u32) -> Result<u32, Refusal> {
+    fn look_up_page<const IN_MEMORY: bool>(&mut self, offset: u32) -> Result<u32, Refusal> {
         let number = offset as usize / 4096;
         if IN_MEMORY && self.wrong(Fault::WordBeforeTranslationOff) {
             self.reach_word(number, WordUse::Lookup)?;
