@@ -226,6 +226,58 @@ faults! {
     /// A reset leaves 2020h.
     ResetKeepsTableControl,
 
+    // Where it was refused: request 5 of document 02.
+    /// A refused window access shows the start of its offset's page.
+    PageOffsetShown,
+    /// A refused window access shows the aligned word of its offset.
+    WordOffsetShown,
+    /// A refused window access shows its entry's number.
+    EntryNumberShown,
+    /// A refused window access shows the record's address.
+    RecordAddressShown,
+    /// A refused window access has target 1.
+    RefusedWithTarget,
+    /// Code 3 shows the offset before fencing.
+    Code3BeforeFencing,
+    /// Code 4 shows the offset before fencing.
+    Code4BeforeFencing,
+    /// Code 5 shows the offset before fencing.
+    Code5BeforeFencing,
+    /// Code 6 of an entry's page shows the offset before fencing.
+    Code6BeforeFencing,
+    /// Code 7 of an entry's page shows the offset before fencing.
+    Code7BeforeFencing,
+    /// Code 6 of a table word that a window access looks up shows the offset before fencing.
+    Word6BeforeFencing,
+    /// Code 7 of a table word that a window access looks up shows the offset before fencing.
+    Word7BeforeFencing,
+    /// Code 9 shows where the ill-formed fence would lead.
+    Code9AfterFencing,
+    /// Code 3 shows zero.
+    Code3ShowsZero,
+    /// Code 9 shows zero.
+    Code9ShowsZero,
+    /// Codes 7 and 6 of a table word that a window access looks up show zero.
+    WordShowsZero,
+    /// A refused write through the window shows zero.
+    WriteShowsZero,
+    /// A refused code read through the window shows zero.
+    CodeReadShowsZero,
+    /// A refused window access of management mode shows zero.
+    ManagementShowsZero,
+    /// A run refused with 3 to 7 shows the graphics offset of its fetch.
+    FetchOffsetShown,
+    /// A run refused with 8 shows the graphics offset of its fetch.
+    OutsideOffsetShown,
+    /// Code 10 shows the register's offset.
+    Code10ShowsOffset,
+    /// Codes 7 and 6 of a table word whose register is accessed show the register's offset.
+    RegisterWordShowsOffset,
+    /// Code 2 shows the offset of an address in the window.
+    Code2ShowsOffset,
+    /// Code 13 shows the offset of an address in the window.
+    Code13ShowsOffset,
+
     // Fences.
     /// The highest matching fence wins.
     HighestFenceWins,

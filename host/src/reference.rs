@@ -314,8 +314,28 @@ impl<'m, O: Observer, F: Faults> Gmch<'m, O, F> {
         if self.wrong(Fault::RefusalWithoutLine) && answer.code != 0 {
             answer.line = 0;
         }
+        self.show_more(record, &mut answer);
         self.observer.answered(record, &answer);
         answer
+    }
+
+    /// What only wrong references show of a refused processor access.
+    #[inline]
+    fn show_more(&self, record: &Record, answer: &mut Answer) {
+        let by_processor = || record.kind().is_some_and(Kind::is_processor);
+        let offset_shown = match answer.code {
+            2 => self.wrong(Fault::Code2ShowsOffset),
+            13 => self.wrong(Fault::Code13ShowsOffset),
+            _ => false,
+        };
+        if offset_shown && by_processor() && self.graphics_decodes() {
+            let offset = record.address.wrapping_sub(self.window_base());
+            answer.address = if offset < self.window_bytes() { offset } else { 0 };
+        }
+        let named = answer.code != 0 && answer.address != 0;
+        if self.wrong(Fault::RefusedWithTarget) && named && by_processor() {
+            answer.target = Target::Memory.number();
+        }
     }
 
     /// "Order: 13, 2, then routing".

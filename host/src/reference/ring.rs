@@ -81,7 +81,12 @@ impl<O: Observer, F: Faults> Gmch<'_, O, F> {
                 }
             }
         }
-        answer.address = self.ring.head;
+        let offset_shown = match answer.code {
+            3..=7 => self.wrong(Fault::FetchOffsetShown),
+            8 => self.wrong(Fault::OutsideOffsetShown),
+            _ => false,
+        };
+        answer.address = if offset_shown { self.ring.start + self.ring.head_offset() } else { self.ring.head };
         answer
     }
 

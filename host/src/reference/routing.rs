@@ -2,7 +2,7 @@
 
 use super::{reached, Access, Gmch, Lsmm, Observer, Refused, Rule, Smram, Touch, KIB};
 use crate::faults::{Fault, Faults};
-use crate::record::{Answer, Target};
+use crate::record::{Answer, Refusal, Target};
 use std::ops::Range;
 
 /// Who makes an access, as far as routing looks at it.
@@ -46,9 +46,21 @@ impl<O: Observer, F: Faults> Gmch<'_, O, F> {
                 Ok(reached(Target::Hub, access.address, 0))
             }
             Route::Vga(offset) => Ok(reached(Target::Vga, offset, 0)),
-            Route::Registers(offset) => Ok(self.register_access(offset, access, mode)?),
+            Route::Registers(offset) => {
+                self.register_access(offset, access, mode).map_err(|refusal| self.refused_register(refusal, offset))
+            }
             Route::Window(offset) => self.window_access(offset, access, mode),
         }
+    }
+
+    /// A refused register access: "01's sentence that all else is zero is amended for these alone", the window's.
+    #[inline]
+    fn refused_register(&self, refusal: Refusal, offset: u32) -> Refused {
+        let shown = match refusal {
+            Refusal::NotExactlyRegister => self.wrong(Fault::Code10ShowsOffset),
+            _ => self.wrong(Fault::RegisterWordShowsOffset),
+        };
+        Refused { refusal, offset: if shown { offset } else { 0 } }
     }
 
     /// "T = TSEG size, G = taken size, U = TOM - T - G."

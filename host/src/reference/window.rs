@@ -78,10 +78,17 @@ impl Fence {
 }
 
 impl<O: Observer, F: Faults> Gmch<'_, O, F> {
-    /// A processor access through the window; the codes come in the order "9, 3, 4, 5, 7, 6", with 7 and 6 of a table
-    /// word in main memory "after code 3". A refusal has its window offset.
+    /// A processor access through the window.
     #[inline]
     pub(super) fn window_access(&mut self, offset: u32, access: Access, mode: Mode) -> Result<Answer, Refused> {
+        let result = self.through_window(offset, access, mode);
+        result.map_err(|refused| Refused { offset: self.shown(refused, offset, access, mode), ..refused })
+    }
+
+    /// The codes come in the order "9, 3, 4, 5, 7, 6", with 7 and 6 of a table word in main memory "after code 3". A
+    /// refusal has its window offset.
+    #[inline]
+    fn through_window(&mut self, offset: u32, access: Access, mode: Mode) -> Result<Answer, Refused> {
         if self.wrong(Fault::TranslationBeforeFence) && !self.translation_on() {
             return Err(Refused { refusal: Refusal::TranslationOff, offset });
         }
@@ -101,6 +108,52 @@ impl<O: Observer, F: Faults> Gmch<'_, O, F> {
             result => result?,
         };
         Ok(self.memory_access(address, access))
+    }
+
+    /// What the answer shows of a refused window access: the offset that the refusal has. Only wrong references show
+    /// something else, which may be the offset `before` fencing.
+    #[inline]
+    fn shown(&self, Refused { refusal, offset }: Refused, before: u32, access: Access, mode: Mode) -> u32 {
+        let (management, code) = match mode {
+            Mode::Processor { management, code } => (management, code),
+            Mode::Master => (false, false),
+        };
+        let own = || self.table_in_memory() && self.table_word(offset as usize / 4096) == Err(refusal);
+        let unfenced = match refusal {
+            Refusal::TranslationOff => self.wrong(Fault::Code3BeforeFencing),
+            Refusal::EntryNotValid => self.wrong(Fault::Code4BeforeFencing),
+            Refusal::EntryType => self.wrong(Fault::Code5BeforeFencing),
+            Refusal::PageProtected => {
+                self.wrong(Fault::Code6BeforeFencing) && !own() || self.wrong(Fault::Word6BeforeFencing) && own()
+            }
+            Refusal::PageAboveMemory => {
+                self.wrong(Fault::Code7BeforeFencing) && !own() || self.wrong(Fault::Word7BeforeFencing) && own()
+            }
+            _ => false,
+        };
+        let zero = self.wrong(Fault::Code3ShowsZero) && refusal == Refusal::TranslationOff
+            || self.wrong(Fault::Code9ShowsZero) && refusal == Refusal::FenceIllFormed
+            || self.wrong(Fault::WordShowsZero) && own()
+            || self.wrong(Fault::WriteShowsZero) && access.data.is_some()
+            || self.wrong(Fault::CodeReadShowsZero) && code
+            || self.wrong(Fault::ManagementShowsZero) && management;
+        if zero {
+            0
+        } else if unfenced {
+            before
+        } else if self.wrong(Fault::Code9AfterFencing) && refusal == Refusal::FenceIllFormed {
+            self.fences.iter().find(|fence| fence.matches(before)).map_or(before, |fence| fence.tiled(before))
+        } else if self.wrong(Fault::PageOffsetShown) {
+            offset & !0xFFF
+        } else if self.wrong(Fault::WordOffsetShown) {
+            offset & !3
+        } else if self.wrong(Fault::EntryNumberShown) {
+            offset / 4096
+        } else if self.wrong(Fault::RecordAddressShown) {
+            access.address
+        } else {
+            offset
+        }
     }
 
     /// "Eight fences, processor window accesses only, lowest matching number wins". Code 9 has "the offset before
