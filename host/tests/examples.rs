@@ -2,7 +2,7 @@
 
 mod common;
 
-use common::{ran, reached, refused, Script, MIB};
+use common::{ran, reached, refused_at, Script, MIB};
 use mitrophel::{call, reference, Record, Target};
 
 /// "Whole case, board 0, two records".
@@ -84,11 +84,11 @@ fn entries_stored_before_the_lock_are_reached_or_refused() {
     let answers = script.replay();
     let expected = [
         reached(Target::Memory, 0x9_FABC, 0),
-        refused(6),
+        refused_at(6, 0x1000),
         reached(Target::Memory, 0x6F_F000, 0),
-        refused(6),
-        refused(7),
-        refused(4),
+        refused_at(6, 0x3000),
+        refused_at(7, 0x4000),
+        refused_at(4, 0x5000),
     ];
     assert_eq!(answers[first..], expected);
 }

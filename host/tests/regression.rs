@@ -2,7 +2,7 @@
 
 mod common;
 
-use common::{ran, reached, refused, Script, MIB};
+use common::{ran, reached, refused_at, Script, MIB};
 use mitrophel::{Answer, Record, Target};
 
 /// GMS 10, USMM 11, LSMM 11: U is 680000h, taken memory 680000h-6FFFFFh, the TSEG 700000h-7FFFFFh.
@@ -49,7 +49,8 @@ fn an_entry_aimed_at_a0000h_is_refused_before_and_after_the_lock_for_management_
         let mut memory = vec![0x5E; 8 * MIB];
         let answers = script.replay_on(&mut memory);
         for i in asked {
-            assert_eq!(answers[i], refused(6), "SMRAM {smram:X}h, {}", script.records[i]);
+            let offset = script.records[i].address - Script::WINDOW;
+            assert_eq!(answers[i], refused_at(6, offset), "SMRAM {smram:X}h, {}", script.records[i]);
         }
         assert!(memory.iter().all(|&byte| byte == 0x5E));
     }
@@ -62,7 +63,8 @@ fn an_entry_at_a_harmless_offset_with_a_protected_page_is_refused() {
     let asked: Vec<usize> = (0..4).flat_map(|page| all_accesses(&mut script, page << 12)).collect();
     let answers = script.replay();
     for i in asked {
-        assert_eq!(answers[i], refused(6), "{}", script.records[i]);
+        let offset = script.records[i].address - Script::WINDOW;
+        assert_eq!(answers[i], refused_at(6, offset), "{}", script.records[i]);
     }
 }
 
@@ -116,7 +118,7 @@ fn the_last_page_below_tom_is_reached_where_there_is_no_tseg() {
         let above = script.window_read(0x1000, 4);
         let answers = script.replay();
         assert_eq!(answers[last], reached(Target::Memory, 0x7F_FFFC, 0), "SMRAM {smram:X}h");
-        assert_eq!(answers[above], refused(7), "SMRAM {smram:X}h");
+        assert_eq!(answers[above], refused_at(7, 0x1000), "SMRAM {smram:X}h");
     }
 }
 

@@ -3,7 +3,7 @@
 
 mod common;
 
-use common::{ran, reached, refused, replay_both, Script, MIB};
+use common::{ran, reached, refused, refused_at, replay_both, Script, MIB};
 use mitrophel::{Answer, Kind, Record, Target};
 
 const TOP: u32 = 8 << 20;
@@ -104,7 +104,8 @@ fn data_past_the_width_is_ignored() {
     assert_eq!(answers[4].value, 0x7755);
 }
 
-/// "its answer holds the code and the interrupt line, all else zero": every refusal, 13 and 2 too.
+/// "its answer holds the code and the interrupt line, all else zero": every refusal but those of a window access, 13 and
+/// 2 too.
 #[test]
 fn a_refusal_carries_the_interrupt_line() {
     let mut script = interrupted();
@@ -533,9 +534,9 @@ fn the_first_rule_that_matches_decides() {
     assert_eq!(answers[end], hub(0x0400_0000));
     assert_eq!(answers[registers], mapped(8, 0));
     assert_eq!(answers[last], mapped(0x7_FFFF, 0));
-    assert_eq!(answers[over_hseg], refused(4));
+    assert_eq!(answers[over_hseg], refused_at(4, 0x02EA_0000));
     assert_eq!(answers[hseg], memory(0xA_0000));
-    assert_eq!(answers[beside], refused(4));
+    assert_eq!(answers[beside], refused_at(4, 0x02E9_FFFC));
 }
 
 /// Hub masters: "memory by rules 1, 4 and by 2 with LSMM 01; else hub".
@@ -650,8 +651,15 @@ fn the_codes_of_a_window_access_come_in_their_order() {
         script.window_read(page << 12, 4);
     }
     let answers = script.replay();
-    assert_eq!([answers[off], answers[fenced]], [refused(3), refused(9)]);
-    let expected = [refused(4), refused(5), refused(5), refused(7), refused(6), memory(0x10_0000)];
+    assert_eq!([answers[off], answers[fenced]], [refused_at(3, 0), refused_at(9, 0)]);
+    let expected = [
+        refused_at(4, 0),
+        refused_at(5, 0x1000),
+        refused_at(5, 0x2000),
+        refused_at(7, 0x3000),
+        refused_at(6, 0x4000),
+        memory(0x10_0000),
+    ];
     assert_eq!(answers[first..], expected);
 }
 
@@ -663,7 +671,7 @@ fn general_memory_is_not_protected() {
         script.entry(1, 0x000A_0001);
         script.smram(smram);
         let read = script.window_read(0x1000, 4);
-        let expected = if code == 0 { memory(0xA_0000) } else { refused(code) };
+        let expected = if code == 0 { memory(0xA_0000) } else { refused_at(code, 0x1000) };
         assert_eq!(script.replay()[read], expected, "SMRAM {smram:X}h");
     }
 }
@@ -681,7 +689,7 @@ fn each_ill_formed_fence_is_refused_with_code_9() {
         script.register_write(0x2000, fence & !1);
         let unfenced = script.window_read(offset, 4);
         let answers = script.replay();
-        assert_eq!(answers[read], refused(9), "{fence:X}h");
+        assert_eq!(answers[read], refused_at(9, offset), "{fence:X}h");
         assert_eq!(answers[unfenced], memory(0x10_0000), "{fence:X}h");
     }
 }
@@ -709,10 +717,10 @@ fn the_lowest_matching_fence_alone_is_looked_at() {
     let beyond = script.window_read(0x0200_0000, 4);
     let answers = script.replay();
     assert_eq!(answers[good], memory(0x10_0000 + 2236));
-    assert_eq!(answers[bad], refused(9));
+    assert_eq!(answers[bad], refused_at(9, 700));
     assert_eq!(answers[elsewhere], memory(0x10_0000 + 2236));
-    assert_eq!(answers[last], refused(9));
-    assert_eq!(answers[beyond], refused(4));
+    assert_eq!(answers[last], refused_at(9, 0x01FF_FFFC));
+    assert_eq!(answers[beyond], refused_at(4, 0x0200_0000));
 }
 
 /// "result start + 2048((y/16)(P/128) + x/128) + 128(y mod 16) + x mod 128", worked out by hand.

@@ -3,7 +3,7 @@
 
 mod common;
 
-use common::{ran, reached, refused, replay_both, Script, MIB};
+use common::{ran, reached, refused, refused_at, replay_both, Script, MIB};
 use mitrophel::{Answer, Record, Target};
 
 const TOP: u32 = 8 << 20;
@@ -145,7 +145,7 @@ fn ordinary_writes_change_the_words() {
     script.push(Record::write(Script::WINDOW + 0x1000, 4, 0x0014_0001, false));
     let by_window = script.window_read(0x44, 4);
     let answers = replay(&script);
-    assert_eq!(answers[off], refused(4));
+    assert_eq!(answers[off], refused_at(4, 0x44));
     assert_eq!(answers[read], mapped(word(0), 0x0011_0001));
     let looked_up = [by_processor, by_master, by_register, by_byte, by_window].map(|i| answers[i]);
     assert_eq!(looked_up, [0x10_0044, 0x11_0044, 0x12_0044, 0x13_0044, 0x14_0044].map(memory));
@@ -220,7 +220,9 @@ fn each_use_is_refused(mut script: Script, number: u32, code: u8, memory_lent: &
     let run = script.run(1);
     let smram = script.read_smram();
     let answers = replay_on(&script, memory_lent);
-    assert_eq!(answers[first..run], [refused(code); 12]);
+    let (window, register) = (refused_at(code, number << 12), refused(code));
+    let each_mode = [window, window, window, register, register, register];
+    assert_eq!(answers[first..run], [each_mode, each_mode].concat());
     assert_eq!(answers[run], ran(code, 0, 0));
     assert_eq!(answers[smram].value & 1, 0, "no error bit");
     assert!(memory_lent == before, "a refusal changes no byte");
@@ -372,7 +374,8 @@ fn the_codes_of_a_window_access_come_in_their_order() {
         script.register_write(0x2020, base | 1);
         let fenced_and_on = script.window_read(0, 4);
         let answers = replay(&script);
-        assert_eq!([word_itself, off, fenced, fenced_and_on].map(|i| answers[i]), [code, 3, 9, 9].map(refused));
+        let at_0 = |code| refused_at(code, 0);
+        assert_eq!([word_itself, off, fenced, fenced_and_on].map(|i| answers[i]), [code, 3, 9, 9].map(at_0));
     }
     // Words that are reached: the entry's own codes, as document 01 has them.
     let entries = [0x0080_0002, 0x0080_0003, 0x000A_0005, 0x0080_0007, 0x000A_0007, 0x0010_0007];
@@ -386,7 +389,14 @@ fn the_codes_of_a_window_access_come_in_their_order() {
         script.window_read(page << 12, 4);
     }
     let answers = replay(&script);
-    let expected = [refused(4), refused(5), refused(5), refused(7), refused(6), memory(0x10_0000)];
+    let expected = [
+        refused_at(4, 0),
+        refused_at(5, 0x1000),
+        refused_at(5, 0x2000),
+        refused_at(7, 0x3000),
+        refused_at(6, 0x4000),
+        memory(0x10_0000),
+    ];
     assert_eq!(answers[first..], expected);
 }
 
@@ -492,7 +502,7 @@ fn a_reset_leaves_the_words() {
     let answers = replay_on(&script, memory_lent);
     assert_eq!(answers[control], mapped(0x2020, 0));
     assert_eq!(answers[at_zero], mapped(word(3), 0x0BAD_0BAD));
-    assert_eq!(answers[off], refused(3));
+    assert_eq!(answers[off], refused_at(3, 0x3044));
     assert_eq!(answers[there], mapped(word(3), 0x0010_0001));
     assert_eq!(answers[window], memory(0x10_0044));
     assert_eq!(word_of(memory_lent, TABLE + 12), 0x0010_0001);
@@ -531,11 +541,12 @@ fn what_is_protected_is_asked_at_each_use() {
     let page_open = script.window_read(0x1044, 4);
     let answers = replay(&script);
     assert_eq!(answers[open], memory(0x10_0044));
-    assert_eq!([closed, register, page].map(|i| answers[i]), [refused(6); 3]);
+    let expected = [refused_at(6, 0x44), refused(6), refused_at(6, 0x1044)];
+    assert_eq!([closed, register, page].map(|i| answers[i]), expected);
     assert_eq!(answers[page_open], memory(0xA_0044));
 }
 
-/// A refusal's answer "holds the code and the interrupt line, all else zero", the word's refusals too.
+/// A refusal's answer "holds the code and the interrupt line", the word's refusals too.
 #[test]
 fn the_words_refusals_carry_the_interrupt_line() {
     let mut script = table_at(TABLE);
@@ -545,11 +556,12 @@ fn the_words_refusals_carry_the_interrupt_line() {
     script.register_write(0x20A0, 2);
     script.run(1);
     script.register_write(0x2020, TOP | 1);
-    let first = script.window_read(0, 4);
+    let first = script.window_read(0x44, 4);
     script.register_read(word(0));
     script.entry(0, 1);
     let answers = replay_on(&script, &mut holding(&[(0x10_0000, 0x0100_0000)]));
-    assert_eq!(answers[first..], [Answer { line: 1, ..refused(7) }; 3]);
+    let up = [refused_at(7, 0x44), refused(7), refused(7)].map(|answer| Answer { line: 1, ..answer });
+    assert_eq!(answers[first..], up);
 }
 
 /// The examples at the edges of document 01, on a table in main memory: "Entries stored before the lock, translation
@@ -567,7 +579,14 @@ fn the_examples_at_the_edges_hold_for_a_table_in_memory() {
     for page in 1..6 {
         script.window_read(page << 12, 4);
     }
-    let expected = [memory(0x9_FABC), refused(6), memory(0x6F_F000), refused(6), refused(7), refused(4)];
+    let expected = [
+        memory(0x9_FABC),
+        refused_at(6, 0x1000),
+        memory(0x6F_F000),
+        refused_at(6, 0x3000),
+        refused_at(7, 0x4000),
+        refused_at(4, 0x5000),
+    ];
     assert_eq!(replay(&script)[first..], expected);
 }
 
@@ -583,5 +602,5 @@ fn a_table_may_end_at_512_mib() {
     let answers = replay_both(2, &mut vec![0; top as usize], &script.records);
     // The last word of memory is the entry itself.
     assert_eq!(answers[last], reached(Target::Memory, top - 4, top - 0x1000 + 1));
-    assert_eq!(answers[above], refused(7));
+    assert_eq!(answers[above], refused_at(7, 16_383 << 12));
 }

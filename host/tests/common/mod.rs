@@ -323,6 +323,11 @@ pub fn refused(code: u8) -> Answer {
     Answer { code, ..Answer::default() }
 }
 
+/// A refusal of a window access, with its offset, and the interrupt line down: request 5 of document 02.
+pub fn refused_at(code: u8, offset: u32) -> Answer {
+    Answer { address: offset, ..refused(code) }
+}
+
 /// A run's answer with the interrupt line down.
 pub fn ran(code: u8, head: u32, count: u32) -> Answer {
     Answer { code, address: head, count, ..Answer::default() }
