@@ -265,6 +265,8 @@ faults! {
     CodeReadShowsZero,
     /// A refused window access of management mode shows zero.
     ManagementShowsZero,
+    /// Code 6 of a table word that a window access looks up shows what the protected word holds.
+    ProtectedWordShown,
     /// A run refused with 3 to 7 shows the graphics offset of its fetch.
     FetchOffsetShown,
     /// A run refused with 8 shows the graphics offset of its fetch.

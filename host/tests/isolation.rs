@@ -27,5 +27,6 @@ fn two_runs_that_differ_in_protected_memory_cannot_be_told_apart() {
     assert!(tally.trials.iter().all(|&trials| trials > 0));
     assert!(tally.protected_pages > 0);
     assert!(tally.protected_words > 0);
+    assert!(tally.shown_offsets.iter().all(|&shown| shown > 0));
     assert!(tally.runs > 0);
 }

@@ -52,7 +52,7 @@ fn every_wrong_reference_is_caught_by_the_random_comparison() {
 }
 
 /// Faults that open protected memory, for the two runs of demand 3.
-const LEAKS: [Fault; 15] = [
+const LEAKS: [Fault; 16] = [
     Fault::ProtectionNotChecked,
     Fault::ProtectionOfOffset,
     Fault::ManagementExemptInWindow,
@@ -68,6 +68,7 @@ const LEAKS: [Fault; 15] = [
     Fault::ManagementReadsProtectedWords,
     Fault::ProtectionOfTableBase,
     Fault::EntryBeforeWord,
+    Fault::ProtectedWordShown,
 ];
 
 /// "Useless models to try": demand 3's test must fail for a model that leaks.

@@ -143,6 +143,8 @@ impl<O: Observer, F: Faults> Gmch<'_, O, F> {
             before
         } else if self.wrong(Fault::Code9AfterFencing) && refusal == Refusal::FenceIllFormed {
             self.fences.iter().find(|fence| fence.matches(before)).map_or(before, |fence| fence.tiled(before))
+        } else if self.wrong(Fault::ProtectedWordShown) && refusal == Refusal::PageProtected && own() {
+            self.open_word(offset as usize / 4096)
         } else if self.wrong(Fault::PageOffsetShown) {
             offset & !0xFFF
         } else if self.wrong(Fault::WordOffsetShown) {

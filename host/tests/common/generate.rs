@@ -1,4 +1,4 @@
-//! Random lists of records that reach the corners of document 01 and of request 10 of document 02.
+//! Random lists of records that reach the corners of document 01 and of requests 5 and 10 of document 02.
 //!
 //! A list is made while the reference replays it, so that each record can aim at the state that it
 //! will meet: at the borders of the map as they stand, at entries and fences that are set, at the
@@ -7,7 +7,7 @@
 use super::words::{Event, Meets};
 use super::{Random, Watch};
 use mitrophel::faults::Faultless;
-use mitrophel::reference::{Gmch, Table, TABLE_WORDS};
+use mitrophel::reference::{Fence, Gmch, Table, TABLE_WORDS};
 use mitrophel::{Answer, Board, Record};
 
 const KIB: u32 = 1 << 10;
@@ -99,8 +99,14 @@ impl<'m> Generator<'m> {
     }
 
     fn emit(&mut self, record: Record) {
-        let (tom, usable_top) = (self.hub.tom(), self.hub.usable_top());
-        self.hub.observer().words.meets = Meets { translation_on: self.translation_on(), tom, usable_top };
+        let meets = Meets {
+            translation_on: self.translation_on(),
+            tom: self.hub.tom(),
+            usable_top: self.hub.usable_top(),
+            window_base: self.hub.window_base(),
+            fences: std::array::from_fn(|number| self.hub.fence(number).map_or(0, |fence| fence.0)),
+        };
+        self.hub.observer().words.meets = meets;
         let answer = self.hub.answer(&record);
         self.records.push(record);
         self.answers.push(answer);
@@ -155,7 +161,7 @@ impl<'m> Generator<'m> {
         if self.table_in_memory() && self.random.one_in(8) {
             return self.move_table();
         }
-        match self.random.below(66) {
+        match self.random.below(67) {
             0..=8 => self.access_window(),
             9..=14 => self.access_border(),
             15..=18 => self.access_memory(),
@@ -190,6 +196,7 @@ impl<'m> Generator<'m> {
             56 => self.overlap(),
             57..=61 => self.parse(),
             62..=64 => self.access_owned(),
+            65 => self.refuse_after_fencing(),
             _ => self.reset(),
         }
     }
@@ -622,6 +629,28 @@ impl<'m> Generator<'m> {
             self.access_window();
         }
         self.register_write(0x2020, 4, base | 1);
+    }
+
+    /// A well-formed fence, an entry where it leads that is mostly refused, and accesses through both.
+    fn refuse_after_fencing(&mut self) {
+        let offset = self.window_page() * PAGE + self.random.below(PAGE);
+        let fence = offset & 0x03F8_0000 | (1 + self.random.below(5)) << 4 | 1;
+        let number = self.random.below(3);
+        self.register_write(0x2000 + 4 * number, 4, fence);
+        let protected: Vec<_> = self.hub.protected_ranges().collect();
+        let entry = match self.random.below(8) {
+            0..=3 if !protected.is_empty() => {
+                let range = &protected[self.random.below(protected.len() as u32) as usize];
+                (range.start + self.random.below(range.end - range.start)) & !(PAGE - 1) | 1
+            }
+            4 => self.hub.tom() + PAGE * self.random.below(4096) | 1,
+            5 => self.entry() & !7 | self.random.pick(&[3, 5]),
+            _ => self.entry(),
+        };
+        self.store_entry(Fence(fence).tiled(offset) / PAGE, entry);
+        for _ in 0..2 + self.random.below(2) {
+            self.access(self.hub.window_base().wrapping_add(offset));
+        }
     }
 
     // The table in main memory --------------------------------------------------------------------

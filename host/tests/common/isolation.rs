@@ -33,6 +33,8 @@ pub struct Tally {
     pub protected_pages: u64,
     /// Uses of a table word that were refused because it is protected.
     pub protected_words: u64,
+    /// Window accesses whose refusal showed an offset other than 0, with 3, 4, 5, 6, 7 and 9.
+    pub shown_offsets: [u64; 6],
     /// Parser runs that completed a step.
     pub runs: u64,
 }
@@ -174,6 +176,10 @@ impl Trial {
         let Generator { records, answers, mut random, .. } = generator;
         tally.count_body(&answers[prefix..]);
         tally.protected_words += watch.coverage.protected_words() - prefix_coverage.protected_words();
+        let (shown, before) = (watch.coverage.places.shown(), prefix_coverage.places.shown());
+        for (count, (shown, before)) in tally.shown_offsets.iter_mut().zip(shown.into_iter().zip(before)) {
+            *count += shown - before;
+        }
         let landing: Vec<bool> =
             (0..records.len()).map(|i| i >= prefix && lands(&records[i], &watch.landings[i])).collect();
         let mut trial = Trial {

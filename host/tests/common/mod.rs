@@ -5,10 +5,12 @@
 pub mod compare;
 pub mod generate;
 pub mod isolation;
+pub mod places;
 pub mod words;
 
 use mitrophel::reference::{Observer, Rule, TableWord, Touch};
 use mitrophel::{call, record, reference, Answer, Board, Record, Target};
+use places::Places;
 use std::fmt;
 use words::{Event, Words};
 
@@ -116,6 +118,10 @@ impl Observer for Watch {
         let landing = self.last.take();
         // A table word may have been touched last, or only.
         self.landings.push(landing.filter(|_| answer.target == Target::Memory.number()));
+        if answer.code != 0 && self.words.by_window() {
+            let by_word = self.words.word_refused();
+            self.coverage.places.note(self.board, &self.words.meets, by_word, record, answer);
+        }
         self.words.answered();
         self.coverage.kinds[usize::from(record.kind).min(10) % 10] += 1;
         self.coverage.codes[self.board][usize::from(answer.code)] += 1;
@@ -123,7 +129,7 @@ impl Observer for Watch {
     }
 }
 
-/// How often each kind, code, target, rule and event was seen.
+/// How often each kind, code, target, rule and event was seen, and each place of a refusal.
 #[derive(Clone, Default)]
 pub struct Coverage {
     /// By kind; number 0 counts the records of no kind.
@@ -133,6 +139,7 @@ pub struct Coverage {
     pub targets: [u64; 6],
     pub rules: [u64; Rule::ALL.len()],
     pub events: [u64; Event::ALL.len()],
+    pub places: Places,
 }
 
 impl Coverage {
@@ -142,17 +149,18 @@ impl Coverage {
 
     fn counts(&self) -> impl Iterator<Item = &u64> {
         let codes = self.codes.iter().flatten();
-        self.kinds.iter().chain(codes).chain(&self.targets).chain(&self.rules).chain(&self.events)
+        let counts = self.kinds.iter().chain(codes).chain(&self.targets).chain(&self.rules).chain(&self.events);
+        counts.chain(self.places.counts())
     }
 
     fn counts_mut(&mut self) -> impl Iterator<Item = &mut u64> {
         let codes = self.codes.iter_mut().flatten();
         let counts = self.kinds.iter_mut().chain(codes).chain(&mut self.targets);
-        counts.chain(&mut self.rules).chain(&mut self.events)
+        counts.chain(&mut self.rules).chain(&mut self.events).chain(self.places.counts_mut())
     }
 
-    /// What each of the counts is of.
-    fn names() -> Vec<String> {
+    /// What each of the counts is of; none for what cannot be. Code 1 is the call's own result and is in no answer.
+    fn names() -> Vec<Option<String>> {
         let mut names: Vec<String> = (0..10).map(|kind| format!("kind {kind}")).collect();
         names[0] = "no kind".to_string();
         for board in Board::ALL {
@@ -161,15 +169,15 @@ impl Coverage {
         names.extend((0..6).map(|target| format!("target {target}")));
         names.extend(Rule::ALL.iter().map(Rule::to_string));
         names.extend(Event::ALL.iter().map(Event::to_string));
-        names
+        let names = names.into_iter().map(|name| Some(name).filter(|name| !name.starts_with("code 1,")));
+        names.chain(Places::names()).collect()
     }
 
-    /// Each count with its name. Code 1 is the call's own result and is in no answer.
+    /// Each count with its name.
     fn named(&self) -> Vec<(String, u64)> {
         let names = Coverage::names();
         assert_eq!(names.len(), self.counts().count());
-        let named = names.into_iter().zip(self.counts().copied());
-        named.filter(|(name, _)| !name.starts_with("code 1,")).collect()
+        names.into_iter().zip(self.counts()).filter_map(|(name, &count)| Some((name?, count))).collect()
     }
 
     pub fn add(&mut self, other: &Coverage) {

@@ -75,6 +75,8 @@ pub struct Meets {
     pub translation_on: bool,
     pub tom: u32,
     pub usable_top: u32,
+    pub window_base: u32,
+    pub fences: [u32; 8],
 }
 
 /// Counts the [`Event`]s of one list.
@@ -86,6 +88,8 @@ pub struct Words {
     /// The lookup under way, and whether the touch of its own word is still to come.
     lookup: Option<TableWord>,
     own_touch: bool,
+    /// Whether the record's table word was refused.
+    refused: bool,
     /// How each word of memory was written last.
     writers: HashMap<u32, Event>,
 }
@@ -95,13 +99,25 @@ impl Words {
         self.rule = Some(rule);
     }
 
+    /// Whether the record is an access through the window.
+    pub fn by_window(&self) -> bool {
+        self.rule == Some(Rule::Window)
+    }
+
+    /// Whether the record's table word was refused.
+    pub fn word_refused(&self) -> bool {
+        self.refused
+    }
+
     pub fn answered(&mut self) {
         self.rule = None;
         self.lookup = None;
+        self.refused = false;
     }
 
     pub fn table_word(&mut self, word: TableWord, coverage: &mut Coverage) {
         self.own_touch = word.refusal.is_none();
+        self.refused = word.refusal.is_some();
         self.lookup = (word.by == WordUse::Lookup && word.refusal.is_none()).then_some(word);
         if let Some(event) = self.outcome(word) {
             coverage.note(event);
@@ -127,7 +143,7 @@ impl Words {
     /// Which of the outcomes this use of a word is; none for a lookup that reads its word.
     fn outcome(&self, word: TableWord) -> Option<Event> {
         let above = word.refusal.map(|refusal| refusal == Refusal::PageAboveMemory);
-        let by_window = self.rule == Some(Rule::Window);
+        let by_window = self.by_window();
         Some(match (word.by, self.meets.translation_on, above) {
             (WordUse::Lookup, _, None) => return None,
             (WordUse::Lookup, _, Some(true)) if by_window => Event::WindowWordAbove,
