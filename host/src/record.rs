@@ -570,6 +570,21 @@ impl std::error::Error for Refusal {}
 /// assert_eq!(answers[0].to_string(), "memory at 1000h, value 12h");
 /// # Ok::<(), mitrophel::WrongArgument>(())
 /// ```
+///
+/// An access through the window that is refused says where. The window is at C0000000h, and entry 18 is not valid:
+///
+/// ```
+/// # use mitrophel::{replay_records, Answer, Board, Record};
+/// let config = |at, data| [Record::io_write(0xCF8, 4, 0x8000_0000 | at), Record::io_write(0xCFC, 4, data)];
+/// let mut records = [(0x70, 0x40), (0x810, 0xC000_0000), (0x814, 0xF000_0000), (0x804, 2)]
+///     .map(|(at, data)| config(at, data))
+///     .concat();
+/// records.push(Record::write(0xF000_2020, 4, 1, false)); // translation on
+/// records.push(Record::read(0xC001_2ABC, 4, false));
+/// let answers = replay_records(Board::I82810, &mut vec![0; 8 << 20], &records)?;
+/// assert_eq!(answers[9], Answer { code: 4, address: 0x1_2ABC, ..Answer::default() });
+/// # Ok::<(), mitrophel::WrongArgument>(())
+/// ```
 #[derive(Clone, Copy, Debug, Default, PartialEq, Eq, Hash)]
 pub struct Answer {
     /// Byte 0: 0, or the code of a [`Refusal`].

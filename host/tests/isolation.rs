@@ -9,7 +9,8 @@ use std::time::Instant;
 
 /// "The two lists are equally long and equal byte for byte, except bytes 8-11 of management-mode
 /// writes that land there in the first run. Answers are compared in all 16 bytes, except bytes 8-11
-/// for a management-mode read that lands there."
+/// for a management-mode read that lands there." Request 5 of document 02: "The offset does not depend on protected
+/// bytes, so demand 3 stands as it is."
 #[test]
 fn two_runs_that_differ_in_protected_memory_cannot_be_told_apart() {
     let started = Instant::now();
