@@ -575,10 +575,8 @@ impl std::error::Error for Refusal {}
 ///
 /// ```
 /// # use mitrophel::{replay_records, Answer, Board, Record};
-/// let config = |at, data| [Record::io_write(0xCF8, 4, 0x8000_0000 | at), Record::io_write(0xCFC, 4, data)];
-/// let mut records = [(0x70, 0x40), (0x810, 0xC000_0000), (0x814, 0xF000_0000), (0x804, 2)]
-///     .map(|(at, data)| config(at, data))
-///     .concat();
+/// let set = |(at, data)| [Record::io_write(0xCF8, 4, 0x8000_0000_u32 | at), Record::io_write(0xCFC, 4, data)];
+/// let mut records = [(0x70, 0x40), (0x810, 0xC000_0000), (0x814, 0xF000_0000), (0x804, 2)].map(set).concat();
 /// records.push(Record::write(0xF000_2020, 4, 1, false)); // translation on
 /// records.push(Record::read(0xC001_2ABC, 4, false));
 /// let answers = replay_records(Board::I82810, &mut vec![0; 8 << 20], &records)?;

@@ -643,7 +643,7 @@ impl<'m> Generator<'m> {
                 let range = &protected[self.random.below(protected.len() as u32) as usize];
                 (range.start + self.random.below(range.end - range.start)) & !(PAGE - 1) | 1
             }
-            4 => self.hub.tom() + PAGE * self.random.below(4096) | 1,
+            4 => (self.hub.tom() + PAGE * self.random.below(4096)) | 1,
             5 => self.entry() & !7 | self.random.pick(&[3, 5]),
             _ => self.entry(),
         };
