@@ -987,7 +987,10 @@ impl<'m> Generator<'m> {
     // Records that break the layout --------------------------------------------------------------
 
     fn break_record(&mut self) {
-        let address = self.border();
+        let address = match self.random.one_in(3) {
+            true => self.hub.window_base().wrapping_add(self.window_page() * PAGE + self.random.below(PAGE)),
+            false => self.border(),
+        };
         let data = self.random.word();
         let good = match self.random.below(9) {
             0 => Record::io_read(0xCFC, 4),
