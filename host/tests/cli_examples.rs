@@ -192,7 +192,7 @@ fn the_demo_tells_its_expected_tale() {
     assert_eq!((run.status, run.errors.as_str()), (DONE, ""));
     expect(&examples().join("demo.expected"), &run.text);
     assert!(run.text.lines().all(|line| line.chars().count() <= 80), "a line is longer than 80 columns");
-    assert!(run.text.contains("refused 6: entry 10's page A0000h is protected"));
+    assert!(run.text.contains("refused 6: page A0000h of entry 10 (window offset\n"));
 }
 
 #[test]

@@ -117,8 +117,12 @@ fn every_code_is_explained_with_an_example_that_runs() {
         let told = run(&["explain", &code.to_string()]);
         assert_eq!((told.status, told.errors.as_str()), (DONE, ""));
         let examples: Vec<&str> = told.text.split("mitrophel replay").skip(1).collect();
-        // 6 and 7 are also given to a word of a table in main memory.
-        let homes: &[&str] = if [6, 7].contains(&code) { &["entry 1's page", "word 1 of the table,"] } else { &[""] };
+        // 6 and 7 are also given to a word of a table in main memory: in the window here, and at its register.
+        let homes: &[&str] = match code {
+            6 => &["page A0000h of entry 1 ", "word 1 of the table (window offset 1000h), at A0004h, "],
+            7 => &["page 800000h of entry 1 ", "word 1 of the table, at 800004h, "],
+            _ => &[""],
+        };
         assert_eq!(examples.len(), homes.len(), "{}", told.text);
         for (example, home) in examples.iter().zip(homes) {
             let script = format!("mitrophel replay{example}");

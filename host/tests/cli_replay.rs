@@ -121,7 +121,7 @@ fn bless_writes_what_came_and_nothing_else() {
     assert!(text.contains("4Eh  # locked"), "{text}");
     assert!(text.contains("  #> dev0.SMRAM is now 4Eh\r\nread4 A0000h  "), "{text}");
     assert!(
-        text.contains("\nread4 WINDOW+A000h                      #> refused 6: entry 10's page A0000h is"),
+        text.contains("\nread4 WINDOW+A000h                      #> refused 6: page A0000h of entry 10 (window"),
         "{text}"
     );
     assert!(text.ends_with("#> memory A0000h = \u{B7}\u{B7}"), "{text}");
@@ -272,16 +272,18 @@ entry 18 100000h
 fn a_word_of_a_table_in_main_memory_is_told_with_its_place() {
     let accesses = "read GTT[18] #> GTT[18] = 00100001h (rule 7: registers, word at 200048h)
 smm write GTT[18] FFFFFFFFh #> GTT[18] is now 3FFFF007h (rule 7: registers, word at 200048h)
-read4 WINDOW+12000h #> refused 7: entry 18's page 3FFFF000h is at or above the top of memory, 800000h
+read4 WINDOW+12000h
+    #> refused 7: page 3FFFF000h of entry 18 (window offset 12000h) is at or above the top of memory, 800000h
 write GTT[18] A0001h #> GTT[18] is now 000A0001h
-read4 WINDOW+12000h #> refused 6: entry 18's page A0000h is protected
-read4 WINDOW+0 #> refused 4: entry 0, 00000000h, is not valid
+read4 WINDOW+12000h #> refused 6: page A0000h of entry 18 (window offset 12000h) is protected
+read4 WINDOW+0 #> refused 4: entry 0 (window offset 0h) is not valid (rule 8: the window, the entry is 00000000h)
 write4 200000h C5678FFEh
-read4 WINDOW+0 #> refused 4: entry 0, C5678FFEh, is not valid
+read4 WINDOW+0 #> refused 4: entry 0 (window offset 0h) is not valid (rule 8: the window, the entry is C5678FFEh)
 read2 GTT[18] #> refused 10: 2 bytes at offset 10048h, not GTT[18] as it is, 4 bytes at 10048h (rule 7: registers)
 write PGTBL_CTL A0001h #> PGTBL_CTL is now 000A0001h (rule 7: registers)
 read GTT[18] #> refused 6: word 18 of the table, at A0048h, is protected (rule 7: registers)
-smm fetch4 WINDOW+12000h #> refused 6: word 18 of the table, at A0048h, is protected (rule 8: window offset 12000h)
+smm fetch4 WINDOW+12000h
+    #> refused 6: word 18 of the table (window offset 12000h), at A0048h, is protected (rule 8: the window)
 write LP_RING_START 12000h
 write LP_RING_LENGTH 1
 write LP_RING_TAIL 8
@@ -289,11 +291,13 @@ run 3 #> refused 6: word 18 of the table, at A0048h, is protected (after 0 steps
 write PGTBL_CTL 800001h
 write GTT[18] 0
     #> refused 7: word 18 of the table, at 800048h, is at or above the top of memory, 800000h (rule 7: registers)
-read4 WINDOW+12000h #> refused 7: word 18 of the table, at 800048h, is at or above the top of memory, 800000h
+read4 WINDOW+12000h
+    #> refused 7: word 18 of the table (window offset 12000h), at 800048h, is at or above the top of memory, 800000h
 run 3
     #> refused 7: word 18 of the table, at 800048h, is at or above the top of memory, 800000h (after 0 steps, head 00000000h)
 write FENCE0 31h
-read4 WINDOW+2BCh #> refused 7: word 2 of the table, at 800008h, is at or above the top of memory, 800000h
+read4 WINDOW+2BCh
+    #> refused 7: word 2 of the table (window offset 283Ch), at 800008h, is at or above the top of memory, 800000h
 reset #> registers at their defaults, table words stay
 ";
     let trace = format!("{TABLE}{accesses}");
@@ -328,11 +332,12 @@ fn entries_in_memory_that_is_protected_at_some_time_are_not_shown() {
         for part in [
             "GTT[0] = \u{B7}\u{B7}",
             "GTT[9] is now \u{B7}\u{B7}",
-            "refused 7: entry 0's page \u{B7}\u{B7} is at or above the top of memory, 800000h",
+            "refused 7: page \u{B7}\u{B7} of entry 0 (window offset 0h) is at or above the top of memory, 800000h",
             "memory \u{B7}\u{B7} = 00000000h",
             "memory \u{B7}\u{B7} takes 00000007h",
-            "refused 4: entry 2, \u{B7}\u{B7}, is not valid",
-            "refused 5: entry 3 has type \u{B7}\u{B7}",
+            "refused 4: entry 2 (window offset 2000h) is not valid",
+            "rule 8: the window, the entry is \u{B7}\u{B7}",
+            "refused 5: entry 3 (window offset 3000h) has type \u{B7}\u{B7}",
             "memory \u{B7}\u{B7} = \u{B7}\u{B7}",
             "write2 GTT[0] \u{B7}\u{B7}",
             "refused 4: entry 2, \u{B7}\u{B7}, is not valid (after 0 steps, head 00000000h)",
@@ -346,9 +351,13 @@ fn entries_in_memory_that_is_protected_at_some_time_are_not_shown() {
         let never = run_with(&words, open.as_bytes());
         for text in [&shown.text, &never.text] {
             assert!(!text.contains('\u{B7}'), "{form:?}: {text}");
-            for part in
-                ["GTT[0] = 05678001h", "entry 2, 05678000h, is", "memory 345ABCh = 00000000h", "type 01, display"]
-            {
+            for part in [
+                "GTT[0] = 05678001h",
+                "entry 2, 05678000h, is",
+                "the window, the entry is 05678000h",
+                "memory 345ABCh = 00000000h",
+                "type 01, display",
+            ] {
                 assert!(text.contains(part), "{form:?} {part}: {text}");
             }
         }

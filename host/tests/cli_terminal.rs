@@ -74,7 +74,7 @@ fn in_terminal(words: &[&str], environment: &[(&str, &str)]) -> (i32, String) {
 #[test]
 fn a_terminal_has_colour_unless_no_color_or_a_dumb_terminal_forbids_it() {
     let trace = example("fault-1-entry-aimed-at-the-key.trace");
-    let red = "\u{1b}[1;31mrefused 6: entry 10's page A0000h is protected\u{1b}[0m";
+    let red = "\u{1b}[1;31mrefused 6: page A0000h of entry 10 (window offset A000h) is protected\u{1b}[0m";
     let (status, text) = in_terminal(&["replay", &trace], &[]);
     assert_eq!(status, DONE);
     assert!(text.contains(red), "{text}");

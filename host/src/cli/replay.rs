@@ -233,7 +233,7 @@ struct Guarded {
 impl Guarded {
     fn note(&mut self, step: &Step<'_, '_>) {
         let value = step.secret && step.record.kind().is_some_and(|kind| !kind.is_write());
-        // A refusal's answer holds no address.
+        // A refusal's address is no page: a window offset, or a run's head.
         self.answers |= value || step.secret_page && step.answer.code == 0;
     }
 }

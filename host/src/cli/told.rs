@@ -3,7 +3,7 @@
 use super::names::Bases;
 use super::pair::Step;
 use super::{listing, names, numbers, words};
-use mitrophel::reference::{Fence, Gmch, Lsmm, Observer, Rule, TABLE_WORDS};
+use mitrophel::reference::{Fence, Gmch, Lsmm, Observer, Rule, TableWord, TABLE_WORDS};
 use mitrophel::trace::REDACTED;
 use mitrophel::{Kind, Record, Refusal, Target};
 
@@ -32,7 +32,7 @@ pub struct Told {
     pub tone: Tone,
     /// The record as a statement of a trace.
     pub asked: String,
-    /// Where it went, or `refused 6: entry 10's page A0000h is protected`.
+    /// Where it went, or `refused 4: entry 18 (window offset 12ABCh) is not valid`.
     pub outcome: String,
     /// The rule, or what else explains the outcome.
     pub reason: String,
@@ -50,7 +50,8 @@ impl Told {
         let hidden_page = step.secret_page && secrets == Secrets::Hidden;
         let (tone, outcome) = outcome(step, hidden, hidden_page);
         let asked = asked(&step.record, step.bases, hidden);
-        Told { tone, asked, outcome, reason: reason(step), line: step.answer.line != 0, hidden, hidden_page }
+        let reason = reason(step, hidden_page);
+        Told { tone, asked, outcome, reason, line: step.answer.line != 0, hidden, hidden_page }
     }
 
     /// What an expectation of a trace says of it, with or without the reason.
@@ -152,15 +153,17 @@ fn mapped(step: &Step<'_, '_>, hidden: bool) -> String {
 
 /// Why a record was refused, with the numbers that decided.
 fn why(step: &Step<'_, '_>, refusal: Refusal, hidden: bool, hidden_page: bool) -> String {
-    if let Some(word) = step.word.filter(|word| word.refusal == Some(refusal)) {
-        return bad_word(step.hub, refusal, word.number, word.address);
+    if let Some(offset) = refused_offset(step) {
+        return refused_in_window(step, refusal, offset, hidden_page);
+    }
+    if let Some(word) = refused_word(step, refusal) {
+        return bad_word(step.hub, refusal, word.number, "", word.address);
     }
     match refusal {
         Refusal::Layout => words::layout_fault(&step.record),
         Refusal::Width => words::width_fault(&step.record),
         Refusal::NotExactlyRegister => not_exact(step),
-        Refusal::FenceIllFormed => ill_formed(step),
-        Refusal::TranslationOff => "translation is off: PGTBL_CTL bit 0 is 0".to_string(),
+        Refusal::TranslationOff => format!("translation is off: {TRANSLATION_BIT}"),
         Refusal::OutsideWindow => {
             let size = numbers::bytes(step.hub.window_bytes().into());
             format!("parser address {:X}h is at or above the window size, {size}", fetch_offset(step))
@@ -168,10 +171,40 @@ fn why(step: &Step<'_, '_>, refusal: Refusal, hidden: bool, hidden_page: bool) -
         Refusal::RingOffset => ring_offset(step),
         Refusal::UnknownInstruction if hidden => format!("word {REDACTED} is no instruction"),
         Refusal::UnknownInstruction => unknown_instruction(step),
-        _ => match graphics_offset(step) {
-            Some(offset) => bad_entry(step.hub, refusal, offset, hidden_page),
-            None => refusal.reason().to_string(),
-        },
+        _ if has_run(step) => bad_entry(step.hub, refusal, fetch_offset(step), hidden_page),
+        _ => refusal.reason().to_string(),
+    }
+}
+
+const TRANSLATION_BIT: &str = "PGTBL_CTL bit 0 is 0";
+
+/// The window offset in the answer to an access that rule 8 took and that was refused: request 5 of document 02.
+fn refused_offset(step: &Step<'_, '_>) -> Option<u32> {
+    (step.rule == Some(Rule::Window) && step.answer.code != 0).then_some(step.answer.address)
+}
+
+/// The word of a table in main memory whose own refusal this is.
+fn refused_word(step: &Step<'_, '_>, refusal: Refusal) -> Option<TableWord> {
+    step.word.filter(|word| word.refusal == Some(refusal))
+}
+
+/// Why an access through the window was refused, and where.
+fn refused_in_window(step: &Step<'_, '_>, refusal: Refusal, offset: u32, hidden_page: bool) -> String {
+    let (hub, entry, at) = (step.hub, offset / 4096, format!(" (window offset {offset:X}h)"));
+    if let Some(word) = refused_word(step, refusal) {
+        return bad_word(hub, refusal, word.number, &at, word.address);
+    }
+    let page = || entry_page(hub, entry, hidden_page);
+    match refusal {
+        Refusal::FenceIllFormed => ill_formed(step, offset, &at),
+        Refusal::TranslationOff => format!("translation is off{at}: {TRANSLATION_BIT}"),
+        Refusal::EntryNotValid => format!("entry {entry}{at} is not valid"),
+        Refusal::EntryType => format!("entry {entry}{at} has type {}", entry_type(hub, entry, hidden_page)),
+        Refusal::PageProtected => format!("page {} of entry {entry}{at} is protected", page()),
+        Refusal::PageAboveMemory => {
+            format!("page {} of entry {entry}{at} is at or above the top of memory, {:X}h", page(), hub.tom())
+        }
+        _ => refusal.reason().to_string(),
     }
 }
 
@@ -194,10 +227,11 @@ fn register_offset(step: &Step<'_, '_>) -> Option<u32> {
     (step.rule == Some(Rule::Registers)).then(|| step.record.address.wrapping_sub(step.hub.registers_base()))
 }
 
-fn ill_formed(step: &Step<'_, '_>) -> String {
-    match window_offset(step).and_then(|offset| matching_fence(step, offset)) {
+/// Which fence is ill-formed, and why; the offset is the one before fencing.
+fn ill_formed(step: &Step<'_, '_>, offset: u32, at: &str) -> String {
+    match matching_fence(step, offset) {
         Some((number, fence)) => {
-            format!("fence {number} is ill-formed: {}", words::ill_formed(fence).unwrap_or_default())
+            format!("fence {number}{at} is ill-formed: {}", words::ill_formed(fence).unwrap_or_default())
         }
         None => Refusal::FenceIllFormed.reason().to_string(),
     }
@@ -213,43 +247,25 @@ fn matching_fence(step: &Step<'_, '_>, offset: u32) -> Option<(usize, Fence)> {
     (0..8).find_map(|number| step.hub.fence(number).filter(|fence| fence.matches(offset)).map(|fence| (number, fence)))
 }
 
-/// The graphics offset that was looked up in the table: an access's after fencing, or a fetch's.
-fn graphics_offset(step: &Step<'_, '_>) -> Option<u32> {
-    if step.record.kind() == Some(Kind::Run) {
-        return Some(fetch_offset(step));
-    }
-    let offset = window_offset(step)?;
-    match matching_fence(step, offset) {
-        Some((_, fence)) if fence.ill_formed() => None,
-        Some((_, fence)) => Some(fence.tiled(offset)),
-        None => Some(offset),
-    }
-}
-
 /// The graphics offset of the word at the ring's head.
 fn fetch_offset(step: &Step<'_, '_>) -> u32 {
     let ring = step.hub.ring();
     ring.start.wrapping_add(ring.head_offset())
 }
 
-/// Why the entry of a graphics offset is refused, or its word in main memory; `hidden` leaves out what the word says.
+/// Why the entry of a graphics offset that the parser fetches from is refused, or its word in main memory; `hidden`
+/// leaves out what the word says.
 pub fn bad_entry<O: Observer>(hub: &Gmch<'_, O>, refusal: Refusal, offset: u32, hidden: bool) -> String {
     let entry = offset / 4096;
-    let number = entry as usize;
-    let word = match Some(number).filter(|number| *number < TABLE_WORDS).map(|number| hub.table_word(number)) {
-        Some(Ok(word)) => word,
-        Some(Err(own)) if own == refusal => {
-            return bad_word(hub, refusal, number, hub.table_word_address(number).unwrap_or_default())
+    if let Some(address) = hub.table_word_address(entry as usize) {
+        if hub.table_word(entry as usize) == Err(refusal) {
+            return bad_word(hub, refusal, entry as usize, "", address);
         }
-        _ => 0,
-    };
-    let shown = |text: String| if hidden { REDACTED.to_string() } else { text };
-    let page = || shown(format!("{:X}h", words::entry_page(word)));
+    }
+    let page = || entry_page(hub, entry, hidden);
     match refusal {
-        Refusal::EntryNotValid => format!("entry {entry}, {}, is not valid", shown(format!("{word:08X}h"))),
-        Refusal::EntryType if hidden => format!("entry {entry} has type {REDACTED}"),
-        Refusal::EntryType if word >> 1 & 3 == 1 => format!("entry {entry} has type 01, display cache"),
-        Refusal::EntryType => format!("entry {entry} has type 10"),
+        Refusal::EntryNotValid => format!("entry {entry}, {}, is not valid", entry_shown(hub, entry, hidden)),
+        Refusal::EntryType => format!("entry {entry} has type {}", entry_type(hub, entry, hidden)),
         Refusal::PageProtected => format!("entry {entry}'s page {} is protected", page()),
         Refusal::PageAboveMemory => {
             format!("entry {entry}'s page {} is at or above the top of memory, {:X}h", page(), hub.tom())
@@ -258,9 +274,42 @@ pub fn bad_entry<O: Observer>(hub: &Gmch<'_, O>, refusal: Refusal, offset: u32, 
     }
 }
 
-/// Why a word of a table in main memory is refused: request 10 of document 02.
-fn bad_word<O: Observer>(hub: &Gmch<'_, O>, refusal: Refusal, number: usize, address: u64) -> String {
-    let word = format!("word {number} of the table, at {address:X}h,");
+/// An entry's word; 0 where it is refused itself, or where there is none.
+fn entry_word<O: Observer>(hub: &Gmch<'_, O>, entry: u32) -> u32 {
+    match entry as usize {
+        number if number < TABLE_WORDS => hub.table_word(number).unwrap_or_default(),
+        _ => 0,
+    }
+}
+
+/// What an entry's word says, unless it is hidden.
+fn unless_hidden(hidden: bool, text: impl FnOnce() -> String) -> String {
+    if hidden {
+        REDACTED.to_string()
+    } else {
+        text()
+    }
+}
+
+fn entry_shown<O: Observer>(hub: &Gmch<'_, O>, entry: u32, hidden: bool) -> String {
+    unless_hidden(hidden, || format!("{:08X}h", entry_word(hub, entry)))
+}
+
+fn entry_page<O: Observer>(hub: &Gmch<'_, O>, entry: u32, hidden: bool) -> String {
+    unless_hidden(hidden, || format!("{:X}h", words::entry_page(entry_word(hub, entry))))
+}
+
+/// The type of an entry that is refused for it.
+fn entry_type<O: Observer>(hub: &Gmch<'_, O>, entry: u32, hidden: bool) -> String {
+    unless_hidden(hidden, || match entry_word(hub, entry) >> 1 & 3 {
+        1 => "01, display cache".to_string(),
+        _ => "10".to_string(),
+    })
+}
+
+/// Why a word of a table in main memory is refused: request 10 of document 02. `at` says where the access was.
+fn bad_word<O: Observer>(hub: &Gmch<'_, O>, refusal: Refusal, number: usize, at: &str, address: u64) -> String {
+    let word = format!("word {number} of the table{at}, at {address:X}h,");
     match refusal {
         Refusal::PageProtected => format!("{word} is protected"),
         _ => format!("{word} is at or above the top of memory, {:X}h", hub.tom()),
@@ -286,7 +335,7 @@ fn unknown_instruction(step: &Step<'_, '_>) -> String {
 }
 
 /// The rule that routed an access, or what else there is to say.
-fn reason(step: &Step<'_, '_>) -> String {
+fn reason(step: &Step<'_, '_>, hidden_page: bool) -> String {
     if has_run(step) {
         // A refused run tells its end with the refusal: the steps are part of the answer.
         return if step.answer.code == 0 { run_end(step) } else { String::new() };
@@ -308,7 +357,10 @@ fn reason(step: &Step<'_, '_>) -> String {
         Rule::HsegMemory => "rule 6: HSEG, management mode".to_string(),
         Rule::HsegError => "rule 6: HSEG, not management mode".to_string(),
         Rule::Registers => registers_reason(step),
-        Rule::Window => window_reason(step),
+        Rule::Window => match refused_offset(step) {
+            Some(offset) => refused_window_reason(step, offset, hidden_page),
+            None => window_reason(step),
+        },
         Rule::Elsewhere => "rule 9: nothing else claims it".to_string(),
         Rule::MasterLow => "hub master by rule 1: below A0000h".to_string(),
         Rule::MasterCompatible => "hub master by rule 2: LSMM 01, general memory".to_string(),
@@ -334,16 +386,33 @@ fn registers_reason(step: &Step<'_, '_>) -> String {
     }
 }
 
+/// An answered access, by offset, fence and entry.
 fn window_reason(step: &Step<'_, '_>) -> String {
-    let Some(offset) = window_offset(step) else { return String::new() };
-    let mut reason = format!("rule 8: window offset {offset:X}h");
-    if let Some((number, fence)) = matching_fence(step, offset).filter(|(_, fence)| !fence.ill_formed()) {
-        reason.push_str(&format!(", tiled to {:X}h by fence {number}", fence.tiled(offset)));
+    let Some(before) = window_offset(step) else { return String::new() };
+    let mut reason = format!("rule 8: window offset {before:X}h");
+    let mut offset = before;
+    if let Some((number, fence)) = matching_fence(step, before) {
+        offset = fence.tiled(before);
+        reason.push_str(&format!(", tiled to {offset:X}h by fence {number}"));
     }
-    if let Some(offset) = graphics_offset(step).filter(|_| step.answer.code == 0) {
-        reason.push_str(&format!(", entry {}", offset / 4096));
+    format!("{reason}, entry {}", offset / 4096)
+}
+
+/// What the outcome of a refused access does not say already: it has the offset that the answer holds.
+fn refused_window_reason(step: &Step<'_, '_>, offset: u32, hidden_page: bool) -> String {
+    let before = window_offset(step).unwrap_or(offset);
+    let fence = matching_fence(step, before).filter(|(_, fence)| !fence.ill_formed());
+    let reason = match fence {
+        Some((number, _)) if before != offset => format!("rule 8: window offset {before:X}h before fence {number}"),
+        Some((number, _)) => format!("rule 8: the window, not moved by fence {number}"),
+        None => "rule 8: the window".to_string(),
+    };
+    match step.answer.refusal() {
+        Some(Refusal::EntryNotValid) => {
+            format!("{reason}, the entry is {}", entry_shown(step.hub, offset / 4096, hidden_page))
+        }
+        _ => reason,
     }
-    reason
 }
 
 fn master_reason(step: &Step<'_, '_>) -> String {
