@@ -673,6 +673,10 @@ impl fmt::Display for Answer {
             (_, Some(refusal), _) => write!(f, "{refusal}")?,
             (code, None, _) => write!(f, "no code {code}")?,
         }
+        // A window offset, or a run's head.
+        if self.code != 0 && self.address != 0 {
+            write!(f, ", address {:X}h", self.address)?;
+        }
         if self.count != 0 {
             write!(f, ", count {}", self.count)?;
         }
@@ -815,6 +819,8 @@ mod tests {
     fn words_say_what_was_refused() {
         assert_eq!(Refusal::PageProtected.to_string(), "refused 6: entry's page is protected");
         assert_eq!(Answer { code: 14, ..Answer::default() }.to_string(), "no code 14");
+        let refused = Answer { code: 4, address: 0x1_2ABC, ..Answer::default() };
+        assert_eq!(refused.to_string(), "refused 4: entry is not valid, address 12ABCh");
         assert_eq!(
             Answer { target: 1, address: 0x9FABC, value: 0x12, line: 1, ..Answer::default() }.to_string(),
             "memory at 9FABCh, value 12h, interrupt line up"
