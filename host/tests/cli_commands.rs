@@ -277,7 +277,8 @@ fn an_audit_ends_with_status_1_if_a_denied_refusal_was_seen() {
     {
         let run = run(&[&["audit"], deny, &[&fault]].concat());
         assert_eq!(run.status, UNMET, "{deny:?}");
-        let first = format!("mitrophel: {fault}:18: refused 6: entry's page is protected (denied)\n");
+        let entry = "page of entry 10 (window offset A000h)";
+        let first = format!("mitrophel: {fault}:18: refused 6: {entry} is protected (denied)\n");
         assert!(run.errors.starts_with(&first), "{}", run.errors);
         assert!(run.errors.ends_with(": 11 more denied refusals"), "{}", run.errors);
         assert!(run.text.contains("protected                              12  denied"), "{}", run.text);
@@ -291,7 +292,8 @@ fn an_audit_names_the_table_word_where_it_may_be_meant() {
     let fault = example("fault-1-entry-aimed-at-the-key.trace");
     let run = run(&["audit", "--board=82810-main", "--compare", "--deny=6", &fault]);
     assert_eq!(run.status, UNMET);
-    let first = format!("mitrophel: {fault}:18: refused 6: entry's page or table word is protected (denied)\n");
+    let entry = "page or table word of entry 10 (window offset A000h)";
+    let first = format!("mitrophel: {fault}:18: refused 6: {entry} is protected (denied)\n");
     assert!(run.errors.starts_with(&first), "{}", run.errors);
 }
 

@@ -1,4 +1,5 @@
-//! `audit`: many lists, call after call, and how often each code and target was answered.
+//! `audit`: many lists, call after call, how often each code and target was answered, and at which table entry most was
+//! refused.
 
 use super::args::{Grammar, Options, ONLY_ONCE};
 use super::complain;
@@ -13,12 +14,13 @@ use super::style::Style;
 use mitrophel::call::gmch_replay;
 use mitrophel::record::{self, MAX_RECORDS, RECORD_BYTES};
 use mitrophel::trace::Warning;
-use mitrophel::{Answer, Board, Refusal, Target};
+use mitrophel::{Answer, Board, Record, Refusal, Target};
 use std::collections::BTreeMap;
 use std::ffi::OsString;
 use std::io::{self, Write};
 use std::mem;
 use std::num::NonZero;
+use std::ops::RangeInclusive;
 use std::sync::atomic::{AtomicUsize, Ordering};
 use std::sync::mpsc::{self, Receiver, Sender};
 use std::sync::{Mutex, MutexGuard, PoisonError};
@@ -104,6 +106,15 @@ impl Audit {
         })
     }
 
+    /// Why a record was refused, as far as its answer tells.
+    fn reason(&self, record: &Record, answer: &Answer, refusal: Refusal) -> String {
+        let in_memory = self.board.table_in_memory();
+        match names::refused_offset(record, answer) {
+            Some(offset) => names::refusal_reason_at(refusal, in_memory, offset),
+            None => names::refusal_reason(refusal, in_memory).to_string(),
+        }
+    }
+
     /// Replays every file, several side by side. One that fails is told and left out.
     fn files(&self, sources: &[Source]) -> Result<(Tally, Status), Failure> {
         let lengths: Option<Vec<u64>> = sources.iter().map(Source::length).collect();
@@ -182,11 +193,11 @@ impl Night<'_> {
         let mut tally = Tally { files: 1, ..Tally::default() };
         while let Some(records) = calls.next()?.filter(|_| self.wants(index)) {
             let answers = engine.replay(&records).map_err(|failure| failure.in_file(&source.name()))?;
-            for (at, answer) in record::decode_answers(&answers).enumerate() {
-                tally.count(&answer);
+            for (at, (record, answer)) in record::decode(&records).zip(record::decode_answers(&answers)).enumerate() {
+                tally.count(&record, &answer);
                 if let Some(refusal) = answer.refusal().filter(|refusal| audit.deny.contains(refusal)) {
-                    let reason = names::refusal_reason(refusal, audit.board.table_in_memory());
-                    tally.deny(|| format!("{}: refused {}: {reason}", calls.place(at), refusal.code()));
+                    let reason = || audit.reason(&record, &answer, refusal);
+                    tally.deny(|| format!("{}: refused {}: {}", calls.place(at), refusal.code(), reason()));
                 }
             }
             tally.calls += 1;
@@ -368,6 +379,8 @@ struct Tally {
     steps: u64,
     codes: [u64; 256],
     targets: [u64; 256],
+    /// Accesses through the window that were refused for their table entry, by code and entry.
+    entries: BTreeMap<(u8, u32), u64>,
     denied: u64,
     /// The first denied refusal of a file.
     first_denied: Option<String>,
@@ -383,6 +396,7 @@ impl Default for Tally {
             steps: 0,
             codes: [0; 256],
             targets: [0; 256],
+            entries: BTreeMap::new(),
             denied: 0,
             first_denied: None,
         }
@@ -390,11 +404,14 @@ impl Default for Tally {
 }
 
 impl Tally {
-    fn count(&mut self, answer: &Answer) {
+    fn count(&mut self, record: &Record, answer: &Answer) {
         self.records += 1;
         self.steps += u64::from(answer.count);
         self.codes[usize::from(answer.code)] += 1;
         self.targets[usize::from(answer.target)] += 1;
+        if let Some(offset) = names::refused_offset(record, answer).filter(|_| BY_ENTRY.contains(&answer.code)) {
+            *self.entries.entry((answer.code, offset / 4096)).or_default() += 1;
+        }
     }
 
     /// Counts a denied refusal, which is told in these words if it is the first.
@@ -423,6 +440,9 @@ impl Tally {
         for (own, other) in pairs.chain(self.targets.iter_mut().zip(&other.targets)) {
             *own += other;
         }
+        for (place, count) in &other.entries {
+            *self.entries.entry(*place).or_default() += count;
+        }
     }
 
     fn print(&self, out: &mut impl Write, style: Style, deny: &[Refusal]) -> io::Result<()> {
@@ -434,7 +454,8 @@ impl Tally {
             writeln!(out, "{}", style.bad(&left_out))?;
         }
         self.print_codes(out, style, deny)?;
-        self.print_targets(out, style)
+        self.print_targets(out, style)?;
+        self.print_entries(out, style)
     }
 
     fn print_codes(&self, out: &mut impl Write, style: Style, deny: &[Refusal]) -> io::Result<()> {
@@ -471,7 +492,27 @@ impl Tally {
         }
         Ok(())
     }
+
+    /// Of each code the entry at which most accesses through the window were refused.
+    fn print_entries(&self, out: &mut impl Write, style: Style) -> io::Result<()> {
+        if self.entries.is_empty() {
+            return Ok(());
+        }
+        writeln!(out, "\n{}", style.bold(&format!("  code  {:<24} {:>16}", "refused most at", "records")))?;
+        for code in BY_ENTRY {
+            // Of several the first.
+            let own = self.entries.range((code, 0)..=(code, u32::MAX)).rev();
+            if let Some(((_, entry), count)) = own.max_by_key(|(_, count)| **count) {
+                let entry = format!("entry {entry}");
+                writeln!(out, "  {code:>4}  {entry:<24} {:>16}", numbers::grouped(*count))?;
+            }
+        }
+        Ok(())
+    }
 }
+
+/// The codes that an access through the window gets for its table entry.
+const BY_ENTRY: RangeInclusive<u8> = Refusal::EntryNotValid.code()..=Refusal::PageAboveMemory.code();
 
 /// A line of the table: what never happened is dim, what is denied and happened stands out.
 fn painted(style: Style, line: &str, count: u64, denied: bool) -> String {

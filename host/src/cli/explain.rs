@@ -31,6 +31,8 @@ const ORDERS: [(&str, &[u8]); 7] = [
 const WINDOW: &str = "through the window";
 const PARSER: &str = "parser run";
 
+const UNCHANGED: &str = "No register, table word or memory byte changes.";
+
 /// Starts most examples.
 const DESK: &str = "\
 config write dev0.SMRAM 4Ch        # graphics on; A0000h-BFFFFh protected
@@ -85,13 +87,15 @@ const CODES: [Code; 13] = [
         refusal: Refusal::TranslationOff,
         when: "The window or the parser is used while PGTBL_CTL (2020h) bit 0 is 0. It is 0 after a reset. Registers of \
                the table are reached all the same.",
-        examples: &[example(DESK, "entry 0 100000h\nread4 WINDOW+0h\n")],
+        examples: &[example(DESK, "entry 0 100000h\nread4 WINDOW+ABCh\n")],
     },
     Code {
         refusal: Refusal::EntryNotValid,
         when: "The table entry of the graphics offset, offset / 4096 and after fencing, has bit 0 clear. All entries \
-               have after a reset, but in a table in main memory, which a reset leaves as it is.",
-        examples: &[example(DESK, "write PGTBL_CTL 1\nread4 WINDOW+1000h  # entry 1\n")],
+               have after a reset, but in a table in main memory, which a reset leaves as it is. Which entry it was, the \
+               answer tells: its address / 4096 for an access through the window, and for a parser run the ring's start \
+               + the head's offset, / 4096.",
+        examples: &[example(DESK, "write PGTBL_CTL 1\nread4 WINDOW+12ABCh  # entry 18\n")],
     },
     Code {
         refusal: Refusal::EntryType,
@@ -139,7 +143,7 @@ const CODES: [Code; 13] = [
         when: "A processor's access through the window matches a fence, the lowest matching number counting, that has \
                size code 7, pitch code 6 or 7, the walk bit set, or a start that is no multiple of its size. The parser \
                is not fenced.",
-        examples: &[example(DESK, "write FENCE0 71h  # valid, pitch code 7\nread4 WINDOW+0h\n")],
+        examples: &[example(DESK, "write FENCE0 71h  # valid, pitch code 7\nread4 WINDOW+ABCh\n")],
     },
     Code {
         refusal: Refusal::NotExactlyRegister,
@@ -233,7 +237,7 @@ impl Code {
     fn text(&self) -> String {
         let heading = paragraph(&format!("{} {}:", self.refusal.code(), self.name()), self.reason());
         let when = paragraph("When  ", self.when);
-        let (order, answer) = (self.order(), paragraph("Answer", self.answer()));
+        let (order, answer) = (self.order(), paragraph("Answer", &self.answer()));
         format!("{heading}\n{when}\n{order}\n{answer}\n{}", self.example())
     }
 
@@ -252,23 +256,37 @@ impl Code {
         headings.zip(ways).map(|(heading, way)| format!("{heading} {way}")).collect()
     }
 
-    fn answer(&self) -> &'static str {
-        let code = self.refusal.code();
-        let given_to = |way| ORDERS.iter().any(|(own, order)| *own == way && order.contains(&code));
-        match (self.refusal, given_to(WINDOW), given_to(PARSER)) {
-            (Refusal::Arguments, _, _) => "None: the call gives 1 and touches neither memory nor answers.",
-            (Refusal::Layout, _, _) | (_, _, false) => {
-                "The code and the interrupt line, all else zero. No register, table word or memory byte changes."
+    fn answer(&self) -> String {
+        let in_run = ORDERS.iter().any(|(way, order)| *way == PARSER && order.contains(&self.refusal.code()));
+        match self.refusal {
+            Refusal::Arguments => "None: the call gives 1 and touches neither memory nor answers.".to_string(),
+            refusal if names::holds_offset(refusal) => self.answer_in_window(in_run),
+            refusal if refusal == Refusal::Layout || !in_run => {
+                format!("The code and the interrupt line, all else zero. {UNCHANGED}")
             }
-            (_, false, true) => {
-                "The code, the interrupt line, the ring's head and the count of steps that the run completed, which stay \
-                 done."
-            }
-            (_, true, true) => {
-                "The code and the interrupt line, all else zero. No register, table word or memory byte changes. A \
-                 parser run keeps the steps that it completed, and its answer holds head and count too."
-            }
+            _ => "The code, the interrupt line, the ring's head and the count of steps that the run completed, which \
+                  stay done."
+                .to_string(),
         }
+    }
+
+    /// Request 5 of document 02: "the offset before fencing for 9, after fencing for the others".
+    fn answer_in_window(&self, in_run: bool) -> String {
+        let fencing = if self.refusal == Refusal::FenceIllFormed { "before" } else { "after" };
+        let run = match in_run {
+            true => " A parser run keeps the steps that it completed, and its answer holds head and count instead.",
+            false => "",
+        };
+        let register = match self.refusal {
+            Refusal::PageProtected | Refusal::PageAboveMemory => {
+                " The answer to an access to an entry's register has address 0."
+            }
+            _ => "",
+        };
+        format!(
+            "The code, the interrupt line and, as address, the byte offset in the window {fencing} fencing; all else \
+             zero. {UNCHANGED}{run}{register}"
+        )
     }
 
     fn example(&self) -> String {

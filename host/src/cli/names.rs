@@ -1,7 +1,7 @@
 //! The names of refusals, beside those of a trace.
 
 pub use mitrophel::trace::names::*;
-use mitrophel::Refusal;
+use mitrophel::{Answer, Kind, Record, Refusal};
 
 /// The refusals that an answer can hold, each with the short name that `--deny` takes.
 pub const REFUSALS: [(Refusal, &str); 12] = [
@@ -34,6 +34,45 @@ pub const fn refusal_reason(refusal: Refusal, table_in_memory: bool) -> &'static
     }
 }
 
+/// Whether the answer to an access through the window that is refused so holds the window offset: "Refusals 3 to 7 and
+/// 9 of a window access" (request 5 of document 02).
+pub const fn holds_offset(refusal: Refusal) -> bool {
+    matches!(
+        refusal,
+        Refusal::TranslationOff
+            | Refusal::EntryNotValid
+            | Refusal::EntryType
+            | Refusal::PageProtected
+            | Refusal::PageAboveMemory
+            | Refusal::FenceIllFormed
+    )
+}
+
+/// The window offset in an answer, where the record is an access that was refused in the window.
+pub fn refused_offset(record: &Record, answer: &Answer) -> Option<u32> {
+    answer.refusal().filter(|refusal| holds_offset(*refusal))?;
+    let by_processor = record.kind().is_some_and(Kind::is_processor);
+    // The register of a table word in main memory is refused 6 and 7 too, with address 0. It stands at no multiple of
+    // 512 KiB, as the window's first byte does.
+    let in_window = answer.address != 0 || record.address.is_multiple_of(512 << 10);
+    (by_processor && in_window).then_some(answer.address)
+}
+
+/// The reason of a refusal in the window, where nothing more is known of it than that and the offset.
+pub fn refusal_reason_at(refusal: Refusal, table_in_memory: bool, offset: u32) -> String {
+    let (entry, at) = (offset / 4096, format!("(window offset {offset:X}h)"));
+    let of_entry = if table_in_memory { "page or table word" } else { "page" };
+    match refusal {
+        Refusal::TranslationOff => format!("translation is off {at}"),
+        Refusal::EntryNotValid => format!("entry {entry} {at} is not valid"),
+        Refusal::EntryType => format!("entry {entry} {at} has type 01 or 10"),
+        Refusal::PageProtected => format!("{of_entry} of entry {entry} {at} is protected"),
+        Refusal::PageAboveMemory => format!("{of_entry} of entry {entry} {at} is at or above the top of memory"),
+        Refusal::FenceIllFormed => format!("the matching fence {at} is ill-formed"),
+        refusal => refusal_reason(refusal, table_in_memory).to_string(),
+    }
+}
+
 /// The refusal with this short name or number.
 pub fn refusal_named(text: &str) -> Option<Refusal> {
     let matches =
@@ -43,7 +82,58 @@ pub fn refusal_named(text: &str) -> Option<Refusal> {
 
 #[cfg(test)]
 mod tests {
+    use super::super::pair::{Pair, Step};
+    use super::super::trace;
     use super::*;
+    use mitrophel::reference::Rule;
+    use mitrophel::Board;
+
+    /// Record and answer tell the window's refusals from all others, by the rule that the reference names.
+    #[test]
+    fn an_offset_is_that_of_a_refusal_in_the_window() {
+        let words = include_str!("../../../examples/request-5-word-of-the-table.trace");
+        let codes = include_str!("../../../examples/request-5-where-it-was-refused.trace");
+        // The first entry's register and the window's first byte: both are refused with address 0.
+        let first = "write PGTBL_CTL A0001h\nread GTT[0]\nread4 WINDOW+0\nread1 WINDOW+1\n";
+        let mut seen = [0; 2];
+        for (board, text) in [
+            (Board::I82810, codes.to_string()),
+            (Board::Dc100Main, codes.to_string()),
+            (Board::I82810Main, format!("{words}{first}")),
+            (Board::I82810, format!("{words}{first}")),
+        ] {
+            let records = trace::assemble(&text).expect("a trace").records;
+            let mut pair = Pair::new(board, [vec![0; 8 << 20], vec![0; 8 << 20]]);
+            let each = |step: &Step<'_, '_>| {
+                let refused = step.answer.code != 0;
+                let in_window = refused && step.rule == Some(Rule::Window);
+                let offset = refused_offset(&step.record, &step.answer);
+                assert_eq!(offset, in_window.then_some(step.answer.address), "{board}: {}", step.record);
+                seen[usize::from(in_window)] += usize::from(refused && step.answer.address == 0);
+                Ok(())
+            };
+            pair.replay(&records, each).expect("the two agree");
+        }
+        assert!(seen[0] >= 12 && seen[1] >= 4, "{seen:?}");
+    }
+
+    #[test]
+    fn words_for_a_refusal_in_the_window() {
+        let told =
+            |code, in_memory| Refusal::from_code(code).map(|refusal| refusal_reason_at(refusal, in_memory, 0x12ABC));
+        let entry = "entry 18 (window offset 12ABCh)";
+        assert_eq!(told(3, true), Some("translation is off (window offset 12ABCh)".to_string()));
+        assert_eq!(told(4, true), Some(format!("{entry} is not valid")));
+        assert_eq!(told(5, true), Some(format!("{entry} has type 01 or 10")));
+        assert_eq!(told(6, false), Some(format!("page of {entry} is protected")));
+        assert_eq!(told(6, true), Some(format!("page or table word of {entry} is protected")));
+        assert_eq!(told(7, false), Some(format!("page of {entry} is at or above the top of memory")));
+        assert_eq!(told(7, true), Some(format!("page or table word of {entry} is at or above the top of memory")));
+        assert_eq!(told(9, true), Some("the matching fence (window offset 12ABCh) is ill-formed".to_string()));
+        assert_eq!(told(10, true).as_deref(), Some(Refusal::NotExactlyRegister.reason()));
+        let with: Vec<u8> = Refusal::ALL.into_iter().filter(|own| holds_offset(*own)).map(Refusal::code).collect();
+        assert_eq!(with, [3, 4, 5, 6, 7, 9]);
+    }
 
     #[test]
     fn every_refusal_has_a_name_and_a_number() {
