@@ -21,7 +21,7 @@ use judge::{alike_at_lock, forbidden, seen, Difference, Seen, Verdict};
 use mitrophel::call::gmch_replay;
 use mitrophel::record::RECORD_BYTES;
 use mitrophel::trace::REDACTED;
-use mitrophel::{Board, Target};
+use mitrophel::{Board, Kind};
 use runs::{Machine, Run, Scope};
 use std::ffi::{OsStr, OsString};
 use std::fs::File;
@@ -201,11 +201,12 @@ impl Report<'_> {
     /// What each run answers in the field that differs.
     fn values(&self, seen: &Seen) -> [String; 2] {
         let width = self.runs[0].records[seen.index].width;
-        // Where the two runs reach different places, a table word that differs has named their pages.
-        let page = self.runs[0].answers[seen.index].target() == Some(Target::Memory);
+        // Where the two runs reach different places, a table word that differs has named their pages. What differs in
+        // a refusal is no window offset.
+        let head = self.runs[0].records[seen.index].kind() == Some(Kind::Run);
         seen.values.map(|value| match seen.field {
             Field::Value if self.secrets == Secrets::Hidden => REDACTED.to_string(),
-            Field::Address if page && self.secrets == Secrets::Hidden => REDACTED.to_string(),
+            Field::Address if !head && self.secrets == Secrets::Hidden => REDACTED.to_string(),
             Field::Value => numbers::data(value, width),
             Field::Code => format!("code {value}"),
             Field::Target => format!("target {value}"),
@@ -357,6 +358,34 @@ mod tests {
             assert!(failure.message.starts_with(&format!("{LOUD}: {expected}\n")), "{}", failure.message);
             let text = String::from_utf8(out).expect("a report");
             assert!(text.contains("FORBIDDEN") && !text.contains("equal"), "{text}");
+        }
+    }
+
+    /// A refusal's address that differs is no window offset, and may be the key's. A run's head is told.
+    #[test]
+    fn a_refusal_whose_address_differs_is_forbidden() {
+        let memory = Memory::zeros(8 << 20);
+        let source = Source::File("leak.trace".into());
+        let text = format!("{LEAK}write LP_RING_TAIL 8\nwrite LP_RING_START A000h\nwrite LP_RING_LENGTH 1\nrun 1\n");
+        let list = List::text(&source, text.as_bytes()).expect("a trace");
+        let scope = Scope::of(&machine(&memory, gmch_replay), &list).expect("it locks");
+        let keys = keys();
+        for (index, expected, secrets) in [
+            (12, ":8: read4 WINDOW+A000h: the answer's address differs: ·· and ··\n", Secrets::Hidden),
+            (12, ":8: read4 WINDOW+A000h: the answer's address differs: 0000A000h and 4B455921h\n", Secrets::Shown),
+            (16, ":12: run 1: the answer's address differs: 00000000h and 4B455921h\n", Secrets::Hidden),
+        ] {
+            let mut runs = keys
+                .each_ref()
+                .map(|key| Run::of(&machine(&memory, gmch_replay), &list, &scope, key).expect("the two agree"));
+            assert_eq!(runs[0].answers[index].code, 6);
+            runs[1].answers[index].address = 0x4B45_5921;
+            let style = Style { colour: false };
+            let report =
+                Report { board: Board::I82810, list: &list, scope: &scope, runs: &runs, keys: &keys, secrets, style };
+            let failure = report.tell(&mut Vec::new()).expect_err("an address differs");
+            assert_eq!(failure.status, Status::Unmet);
+            assert!(failure.message.contains(expected), "{}", failure.message);
         }
     }
 

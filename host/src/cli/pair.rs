@@ -171,7 +171,9 @@ impl Pair {
                 let value = self.hidden || secret || leaked;
                 let by_word = self.board.table_in_memory() && heard.rule == Some(Rule::Window);
                 let page = by_word && (self.hidden || secret_word != Some(false));
-                return Err(different_answers(index, &record, bases, [&answer, &beside], Hidden { value, page }));
+                // A refusal's address is a window offset: the reference's is one, the other may be anything.
+                let pages = [page, page && beside.code == 0];
+                return Err(different_answers(index, &record, bases, [&answer, &beside], Hidden { value, pages }));
             }
             let secret_page = secret_word == Some(true) && names_a_page(&answer, &heard);
             let Heard { rule, protected, word, .. } = heard;
@@ -251,21 +253,22 @@ const ADVICE: &str = "Trust neither answer. Nothing was written. Please report t
 #[derive(Clone, Copy)]
 struct Hidden {
     value: bool,
-    /// The address, which a table word gave.
-    page: bool,
+    /// The address of each, which a table word gave.
+    pages: [bool; 2],
 }
 
 /// The two answers, without what may be the key's.
 fn different_answers(index: usize, record: &Record, bases: Bases, both: [&Answer; 2], hidden: Hidden) -> Failure {
-    let [proved, beside] = both.map(|answer| {
+    let shown = |answer: &Answer, hidden_page| {
         let value = if hidden.value { 0 } else { answer.value };
-        let address = if hidden.page { 0 } else { answer.address };
+        let address = if hidden_page { 0 } else { answer.address };
         let answer = Answer { value, address, ..*answer };
         let bytes = answer.to_bytes().map(|byte| format!("{byte:02X} "));
         format!("{}({answer})", bytes.concat())
-    });
+    };
+    let [proved, beside] = [0, 1].map(|of| shown(both[of], hidden.pages[of]));
     let note = match hidden {
-        Hidden { page: true, .. } => {
+        Hidden { pages: [true, _], .. } => {
             "\n  Values of protected memory, and addresses from a table there, are shown as 0."
         }
         Hidden { value: true, .. } => "\n  Values of protected memory are shown as 0.",
@@ -351,6 +354,15 @@ mod tests {
         result
     }
 
+    /// Answers as the proved call does, but where it refuses the address is a word of the page at A0000h.
+    fn pointing(board: u32, memory: &mut [u8], records: &[u8], answers: &mut [u8]) -> u32 {
+        let result = gmch_replay(board, memory, records, answers);
+        for answer in answers.as_chunks_mut::<RECORD_BYTES>().0.iter_mut().filter(|answer| answer[0] != 0) {
+            answer[4..8].copy_from_slice(&memory[0xA_0FFC..0xA_1000]);
+        }
+        result
+    }
+
     fn refusing(_: u32, _: &mut [u8], _: &[u8], _: &mut [u8]) -> u32 {
         1
     }
@@ -433,6 +445,35 @@ mod tests {
                 }
                 assert!(failure.message.contains("shown as 0"), "{}", failure.message);
             }
+        }
+    }
+
+    /// Both offsets are told; but where the table's words are the key's, what the call has in its place may be one.
+    #[test]
+    fn a_different_offset_is_told_without_the_key() {
+        let setup =
+            "config write dev0.SMRAM 4Ch\nconfig write dev1.GMADR C0000000h\nconfig write dev1.MMADR F0000000h\n\
+                     config write dev1.PCICMD 2\nwrite PGTBL_CTL A0001h\nread4 WINDOW+12ABCh\n";
+        let records = trace::assemble(setup).expect("a trace").records;
+        // 12000h, the page's offset; and a key.
+        for (board, code, word, call, hidden) in [
+            (Board::I82810, 4, 0x1_2000_u32, "00 20 01 00 ", false),
+            (Board::I82810Main, 6, 0x005A_1001, "00 00 00 00 ", true),
+        ] {
+            let memory = memory().map(|mut memory| {
+                memory[0xA_0000..0xA_1000].as_chunks_mut().0.fill(word.to_le_bytes());
+                memory
+            });
+            let failure = Pair::by(board, memory, pointing).replay(&records, |_| Ok(())).expect_err("a wrong offset");
+            assert_eq!(failure.status, Status::Disagreement);
+            let message = failure.message;
+            assert!(message.contains("DISAGREE at record 10 of the call: read4 WINDOW+12ABCh\n"), "{message}");
+            assert!(message.contains(&format!("\n  proved call {code:02X} 00 00 00 {call}00 ")), "{message}");
+            assert!(message.contains(&format!("\n  reference   {code:02X} 00 00 00 BC 2A 01 00 00 ")), "{message}");
+            assert!(message.contains(", address 12ABCh)"), "{message}");
+            assert_eq!(message.contains(", address 12000h)"), !hidden, "{message}");
+            assert!(!message.contains("5A"), "{message}");
+            assert_eq!(message.contains("addresses from a table there, are shown as 0."), hidden, "{message}");
         }
     }
 
