@@ -51,8 +51,10 @@ const REPLAY: &str = "\
 Usage: mitrophel replay [OPTION].. FILE
 Replay the records of FILE from a cold start, by the proved call, and print
 each with its answer: what was accessed, where it went, by which rule, or the
-refusal and why. FILE is a text trace or the binary form, told apart by its
-content; '-' is standard input.
+refusal and why. An access that is refused in the window is told with the table
+entry and the window offset, which the answer's address field holds. FILE is a
+text trace or the binary form, told apart by its content; '-' is standard
+input.
 
   --check           compare the answers with what the trace expects, '#> ..'
                     beside or below a line; exit with 1 if one differs
@@ -223,10 +225,11 @@ Example:
 const AUDIT: &str = "\
 Usage: mitrophel audit [OPTION].. FILE..
 The night audit: replay every FILE ('-': standard input), call after call, each
-on fresh memory, and print how often each code and each target was answered. A
-list of more than 65,535 records is cut in front of reset records, as
-'mitrophel replay --help' says. A bar shows the progress if standard error is a
-terminal.
+on fresh memory, and print how often each code and each target was answered,
+and for codes 4 to 7 at which table entry most accesses through the window were
+refused. A list of more than 65,535 records is cut in front of reset records,
+as 'mitrophel replay --help' says. A bar shows the progress if standard error
+is a terminal.
 
   --deny KIND       exit with status 1 if a refusal of this kind was seen;
                     several with commas, or by giving the option again
