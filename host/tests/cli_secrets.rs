@@ -21,7 +21,7 @@ fn list(random: &mut Random) -> String {
         let entry = random.pick(&[0, 1, 2, 1022, 1023, 1024, 1025, 2048]);
         let offset = 4096 * entry + 4 * random.below(1024);
         let (mode, who) = (random.pick(&["", "smm "]), random.pick(&["", "smm ", "master "]));
-        list += &match random.below(12) {
+        list += &match random.below(13) {
             0 => format!("config write dev0.SMRAM {}\n", random.pick(SMRAMS)),
             1 => format!("write PGTBL_CTL {}\n", random.pick(TABLES)),
             2 => format!("smm write4 {} KEY\n", random.pick(KEYS)),
@@ -33,7 +33,8 @@ fn list(random: &mut Random) -> String {
             6 => format!("write LP_RING_START {:X}h\nwrite LP_RING_LENGTH 1001h\n", 4096 * entry),
             7 => format!("write LP_RING_TAIL {:X}h\nrun {}\n", 8 * random.below(1024), random.below(2000)),
             8 => format!("{mode}write4 WINDOW+{offset:X}h 0\n"),
-            9 if random.below(3) == 0 => format!("reset\nconfig write dev0.SMRAM {}\n{BASES}", random.pick(SMRAMS)),
+            9 => format!("write FENCE0 {}\n", random.pick(&["0", "31h", "51h", "71h"])),
+            10 if random.below(3) == 0 => format!("reset\nconfig write dev0.SMRAM {}\n{BASES}", random.pick(SMRAMS)),
             _ => format!("{mode}read{} WINDOW+{offset:X}h\n", random.pick(&["1", "2", "4"])),
         };
     }
@@ -44,7 +45,7 @@ fn list(random: &mut Random) -> String {
 #[test]
 fn what_is_printed_does_not_depend_on_the_key() {
     let commands: [&[&str]; 5] = [&["replay"], &["replay", "--json"], &["state"], &["map"], &["disasm"]];
-    let mut hidden = 0;
+    let (mut hidden, mut offsets) = (0, [0; 3]);
     for seed in 0..60 {
         let list = list(&mut Random::new(seed));
         let keys = ["00345001h", "00346001h"];
@@ -60,7 +61,14 @@ fn what_is_printed_does_not_depend_on_the_key() {
             }
             assert_eq!(one.out, two.out, "seed {seed}, board {board}, {command:?}");
             hidden += one.text.matches("memory \u{B7}\u{B7}").count();
+            // The offset of a refusal in the window: told, moved by a fence, and told where the entry is not.
+            let offset = |line: &&str| line.contains(" (window offset ");
+            for line in one.text.lines().filter(offset) {
+                offsets[0] += 1;
+                offsets[1] += usize::from(line.contains(" before fence 0"));
+                offsets[2] += usize::from(line.contains('\u{B7}'));
+            }
         }
     }
-    assert!(hidden > 20, "{hidden}");
+    assert!(hidden > 20 && offsets.iter().all(|seen| *seen > 20), "{hidden}, {offsets:?}");
 }
