@@ -77,7 +77,7 @@ fn entry_target(m: Map, control: u32, o: u32) -> Target
     let i = mapped::entry_number(o);
     match graphics::word_reach(m, control, i as u32) {
         Reach::At(p) => Target::Entry(o, p),
-        Reach::Denied(c, n) => Target::Refused(c, n),
+        Reach::Denied(c, none) => Target::Refused(c, none),
     }
 }
 
