@@ -17,6 +17,6 @@ fn every_expectation_of_the_sample_is_checked() {
     let count: usize = count.and_then(|count| count.parse().ok()).expect("a number of expectations");
     let demo = run(&["demo"]);
     assert_eq!((demo.status, demo.errors.as_str()), (DONE, ""));
-    let end = format!("\n{} outcomes checked: all as document 01 has them.\n", count + 1);
+    let end = format!("\n{} outcomes checked: all as documents 01 and 02 have them.\n", count + 1);
     assert!(demo.text.ends_with(&end), "{}", demo.text);
 }

@@ -79,7 +79,7 @@ impl Demo<'_> {
         // The reference beside the other key's list as well.
         board(self.call).replay(&record::encode(&run.other_key()), |_| Ok(()))?;
         let checked = teller.checked;
-        writeln!(out, "\n{}", style.good(&format!("{checked} outcomes checked: all as document 01 has them.")))?;
+        writeln!(out, "\n{}", style.good(&format!("{checked} outcomes checked: all as documents 01 and 02 have them.")))?;
         Ok(())
     }
 }
@@ -373,7 +373,7 @@ mod tests {
         let tale = told(SAMPLE, gmch_replay).expect("the sample holds");
         let expected = expectations().len();
         assert!(expected > 40);
-        let end = format!("\n{} outcomes checked: all as document 01 has them.\n", expected + 1);
+        let end = format!("\n{} outcomes checked: all as documents 01 and 02 have them.\n", expected + 1);
         assert!(tale.ends_with(&end), "{tale}");
     }
 
