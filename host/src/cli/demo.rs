@@ -79,7 +79,11 @@ impl Demo<'_> {
         // The reference beside the other key's list as well.
         board(self.call).replay(&record::encode(&run.other_key()), |_| Ok(()))?;
         let checked = teller.checked;
-        writeln!(out, "\n{}", style.good(&format!("{checked} outcomes checked: all as documents 01 and 02 have them.")))?;
+        writeln!(
+            out,
+            "\n{}",
+            style.good(&format!("{checked} outcomes checked: all as documents 01 and 02 have them."))
+        )?;
         Ok(())
     }
 }
