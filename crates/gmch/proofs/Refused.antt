@@ -47,7 +47,8 @@ module _ (m : Map) (o c n : ℕ) where
   unfolding P
   translate-names control look = entered-names (entryAt control look o)
 
--- so a window access at o that is refused with c names n: o itself with 9, the offset after fencing with all others
+-- so a window access at o that is refused with c names n: o itself where the fence refuses, which is 9; the offset after
+-- fencing where the table does
 pub data Names (fences : List ℕ) (o c n : ℕ) : Type 0 where
   before-fencing : c ≡ 9 → n ≡ o → Names fences o c n
   after-fencing : fenced fences o ≡ At n → Names fences o c n
