@@ -13,6 +13,7 @@ use super::progress::Progress;
 use super::style::Style;
 use mitrophel::call::gmch_replay;
 use mitrophel::record::{self, MAX_RECORDS, RECORD_BYTES};
+use mitrophel::reference::TABLE_WORDS;
 use mitrophel::trace::Warning;
 use mitrophel::{Answer, Board, Record, Refusal, Target};
 use std::collections::BTreeMap;
@@ -193,9 +194,15 @@ impl Night<'_> {
         let mut tally = Tally { files: 1, ..Tally::default() };
         while let Some(records) = calls.next()?.filter(|_| self.wants(index)) {
             let answers = engine.replay(&records).map_err(|failure| failure.in_file(&source.name()))?;
-            for (at, (record, answer)) in record::decode(&records).zip(record::decode_answers(&answers)).enumerate() {
-                tally.count(&record, &answer);
-                if let Some(refusal) = answer.refusal().filter(|refusal| audit.deny.contains(refusal)) {
+            let (records_read, _) = records.as_chunks();
+            for (at, answer) in record::decode_answers(&answers).enumerate() {
+                tally.count(&answer);
+                let (Some(refusal), Some(record)) = (answer.refusal(), records_read.get(at)) else { continue };
+                let record = Record::from_bytes(record);
+                if let Some(offset) = names::refused_offset(&record, &answer) {
+                    tally.entries.count(answer.code, offset);
+                }
+                if audit.deny.contains(&refusal) {
                     let reason = || audit.reason(&record, &answer, refusal);
                     tally.deny(|| format!("{}: refused {}: {}", calls.place(at), refusal.code(), reason()));
                 }
@@ -379,8 +386,7 @@ struct Tally {
     steps: u64,
     codes: [u64; 256],
     targets: [u64; 256],
-    /// Accesses through the window that were refused for their table entry, by code and entry.
-    entries: BTreeMap<(u8, u32), u64>,
+    entries: Entries,
     denied: u64,
     /// The first denied refusal of a file.
     first_denied: Option<String>,
@@ -396,7 +402,7 @@ impl Default for Tally {
             steps: 0,
             codes: [0; 256],
             targets: [0; 256],
-            entries: BTreeMap::new(),
+            entries: Entries::default(),
             denied: 0,
             first_denied: None,
         }
@@ -404,14 +410,11 @@ impl Default for Tally {
 }
 
 impl Tally {
-    fn count(&mut self, record: &Record, answer: &Answer) {
+    fn count(&mut self, answer: &Answer) {
         self.records += 1;
         self.steps += u64::from(answer.count);
         self.codes[usize::from(answer.code)] += 1;
         self.targets[usize::from(answer.target)] += 1;
-        if let Some(offset) = names::refused_offset(record, answer).filter(|_| BY_ENTRY.contains(&answer.code)) {
-            *self.entries.entry((answer.code, offset / 4096)).or_default() += 1;
-        }
     }
 
     /// Counts a denied refusal, which is told in these words if it is the first.
@@ -440,9 +443,7 @@ impl Tally {
         for (own, other) in pairs.chain(self.targets.iter_mut().zip(&other.targets)) {
             *own += other;
         }
-        for (place, count) in &other.entries {
-            *self.entries.entry(*place).or_default() += count;
-        }
+        self.entries.add(&other.entries);
     }
 
     fn print(&self, out: &mut impl Write, style: Style, deny: &[Refusal]) -> io::Result<()> {
@@ -495,16 +496,14 @@ impl Tally {
 
     /// Of each code the entry at which most accesses through the window were refused.
     fn print_entries(&self, out: &mut impl Write, style: Style) -> io::Result<()> {
-        if self.entries.is_empty() {
+        if self.entries.counts.is_empty() {
             return Ok(());
         }
         writeln!(out, "\n{}", style.bold(&format!("  code  {:<24} {:>16}", "refused most at", "records")))?;
         for code in BY_ENTRY {
-            // Of several the first.
-            let own = self.entries.range((code, 0)..=(code, u32::MAX)).rev();
-            if let Some(((_, entry), count)) = own.max_by_key(|(_, count)| **count) {
+            if let Some((entry, count)) = self.entries.most(code) {
                 let entry = format!("entry {entry}");
-                writeln!(out, "  {code:>4}  {entry:<24} {:>16}", numbers::grouped(*count))?;
+                writeln!(out, "  {code:>4}  {entry:<24} {:>16}", numbers::grouped(count))?;
             }
         }
         Ok(())
@@ -513,6 +512,47 @@ impl Tally {
 
 /// The codes that an access through the window gets for its table entry.
 const BY_ENTRY: RangeInclusive<u8> = Refusal::EntryNotValid.code()..=Refusal::PageAboveMemory.code();
+
+/// How many accesses through the window were refused for their table entry.
+#[derive(Default)]
+struct Entries {
+    /// For each of [`BY_ENTRY`] a count for each entry, one row after the other; empty while all are 0.
+    counts: Vec<u64>,
+}
+
+impl Entries {
+    /// Where the row of a code begins.
+    fn row(code: u8) -> Option<usize> {
+        BY_ENTRY.contains(&code).then(|| usize::from(code - BY_ENTRY.start()) * TABLE_WORDS)
+    }
+
+    /// Counts a refusal at this window offset, if its code is one of [`BY_ENTRY`].
+    fn count(&mut self, code: u8, offset: u32) {
+        let entry = offset as usize / 4096;
+        let Some(row) = Entries::row(code).filter(|_| entry < TABLE_WORDS) else { return };
+        if self.counts.is_empty() {
+            self.counts = vec![0; BY_ENTRY.count() * TABLE_WORDS];
+        }
+        self.counts[row + entry] += 1;
+    }
+
+    fn add(&mut self, other: &Entries) {
+        if self.counts.is_empty() {
+            self.counts.clone_from(&other.counts);
+            return;
+        }
+        for (own, other) in self.counts.iter_mut().zip(&other.counts) {
+            *own += other;
+        }
+    }
+
+    /// The entry with most refusals of this code, of several the first, and how many they are.
+    fn most(&self, code: u8) -> Option<(usize, u64)> {
+        let row = Entries::row(code)?;
+        let counts = self.counts.get(row..row + TABLE_WORDS)?.iter().copied().enumerate();
+        counts.rev().max_by_key(|(_, count)| *count).filter(|(_, count)| *count > 0)
+    }
+}
 
 /// A line of the table: what never happened is dim, what is denied and happened stands out.
 fn painted(style: Style, line: &str, count: u64, denied: bool) -> String {
@@ -566,6 +606,24 @@ mod tests {
                 assert!(failure.message.starts_with(&format!("{bad}: ")), "{jobs}: {}", failure.message);
             }
         }
+    }
+
+    /// Counts of several files are added up; what no table has is left out.
+    #[test]
+    fn entries_are_counted_by_code_and_file() {
+        let counted = |refusals: &[(u8, u32)]| {
+            let mut entries = Entries::default();
+            refusals.iter().for_each(|&(code, offset)| entries.count(code, offset));
+            entries
+        };
+        let none = counted(&[(3, 0), (8, 0), (9, 0), (4, 64 << 20), (7, u32::MAX)]);
+        assert!(none.counts.is_empty());
+        let first = counted(&[(4, 0x3FF_FFFF), (4, 0x5ABC), (4, 0x3FF_F000), (7, 0)]);
+        let second = counted(&[(4, 0x5000), (4, 0x5FFF), (6, 0x1000)]);
+        let mut total = Entries::default();
+        [&none, &first, &none, &second, &first].iter().for_each(|own| total.add(own));
+        assert_eq!((first.most(4), second.most(4), total.most(4)), (Some((16383, 2)), Some((5, 2)), Some((5, 4))));
+        assert_eq!([3, 5, 6, 7, 8].map(|code| total.most(code)), [None, None, Some((1, 1)), Some((0, 2)), None]);
     }
 
     /// A call that takes one board alone.
