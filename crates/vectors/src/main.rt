@@ -1,5 +1,5 @@
-// The examples of document 01 that are not marked as proved: the proved functions are run, and what they give is held to
-// the file stdout. What needs main memory is replayed from the host instead.
+// The examples of document 01 that are not marked as proved, and the power states of request 3 of document 02: the proved
+// functions are run, and what they give is held to the file stdout. What needs main memory is replayed from the host instead.
 use gmch::Map;
 use gmch::Reach;
 use gmch::State;
@@ -90,9 +90,42 @@ fn call(length: usize) {
     }
 }
 
+// ---- the power state of device 1, from any value: 01 and 10 cannot be left there by a replay from a cold start
+
+// PM_CS holds `held`, and the n low bytes of v are written to it.
+fn power(held: u8, v: u32, n: u32) {
+    text(b"PM_CS ");
+    hex(held as u32);
+    text(b", written ");
+    hex(v);
+    text(b" in ");
+    hex(n);
+    let dev0 = [0u8; 256];
+    let mut dev1 = [0u8; 256];
+    dev1[0xE0] = held;
+    if n <= 4 {
+        config::access::write(&mut dev1, rows::bits_of(0x78, false, false), 0x1E0, n, v);
+    }
+    text(b" bytes: ");
+    hex(config::register_value(0, &dev0, &dev1, 0x1E0, 4));
+    text(b"\n");
+}
+
+// Each state held and each written, with bit 8.
+fn powers(n: u32) {
+    let mut i: u32 = 0;
+    while i < 16 {
+        power((i / 4) as u8, 0x100 + i % 4, n);
+        i = i + 1;
+    }
+}
+
 fn main() {
     let s = select(config::cold_start(0), 0x80000000);
     read(s);
     entry(0);
     call(0);
+    powers(1);
+    powers(2);
+    powers(4);
 }
