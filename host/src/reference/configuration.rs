@@ -50,7 +50,7 @@ const DEVICE_1: [Row; 14] = [
     row(0x3D, 1, 0x01, 0, 0),
     row(0xDC, 2, 0x0001, 0, 0),
     row(0xDE, 2, 0x0021, 0, 0),
-    row(0xE0, 2, 0x0000, 0x0103, 0),
+    row(PM_CS, 2, 0x0000, 0x0103, 0),
 ];
 
 /// "02 7120h/7122h" and "02 7121h/7123h", by device: the 82810's and the DC100's. Board kinds 2 and 3 are
@@ -67,6 +67,10 @@ const MISCC: usize = 0x72;
 const COMMAND: usize = 0x04;
 const GMADR: usize = 0x10;
 const MMADR: usize = 0x14;
+/// Power management control and status.
+const PM_CS: usize = 0xE0;
+/// The power state in PM_CS's low byte: 00 is D0, 11 is D3.
+const POWER_STATE: u8 = 0b11;
 
 /// A device's rows, byte by byte; "unlisted: read 0, writes ignored".
 struct Layout {
@@ -93,6 +97,16 @@ const fn layout(rows: &[Row]) -> Layout {
 }
 
 static LAYOUTS: [Layout; 2] = [layout(&DEVICE_0), layout(&DEVICE_1)];
+
+/// Request 3 of document 02, "Power states that do not exist": "Only 00 and 11 are supported. So a write touching that
+/// byte with 01 or 10 leaves the two bits; the other bits of the same write still act." The plain bits of PM_CS's low
+/// byte for this write.
+fn power_state_mask(byte: u8, plain: u8) -> u8 {
+    match byte & POWER_STATE {
+        0b01 | 0b10 => plain & !POWER_STATE,
+        _ => plain,
+    }
+}
 
 /// A device's 256 bytes at cold start.
 pub(super) fn default_bytes(board: Board, device: usize) -> [u8; 256] {
@@ -282,6 +296,7 @@ impl<O: Observer, F: Faults> Gmch<'_, O, F> {
                     plain = self.subsystem_mask(at - 0x2C, written);
                     self.subsystem_written |= 1 << (at - 0x2C);
                 }
+                (1, PM_CS) => plain = power_state_mask(byte, plain),
                 _ => {}
             }
             let old = self.devices[device][at];
@@ -443,5 +458,96 @@ impl<O: Observer, F: Faults> Gmch<'_, O, F> {
     #[inline]
     fn device_word(&self, device: usize, register: usize) -> u32 {
         u32::from_le_bytes(*self.devices[device][register..].first_chunk().expect("four of 256 bytes"))
+    }
+}
+
+#[cfg(test)]
+mod tests {
+    use super::super::TABLE_WORDS;
+    use super::*;
+    use crate::Record;
+    use std::collections::HashSet;
+    use std::{fs, path::Path};
+
+    /// What PM_CS reads once it held this word and so many bytes of data were written at one of its bytes. No run from
+    /// cold start holds a state that is not supported, so the word is put there.
+    fn written(hub: &mut Gmch<'_>, held: u32, register: u32, width: u8, data: u32) -> u32 {
+        hub.devices[0][SMRAM] = 0x40;
+        hub.devices[1][PM_CS..][..4].copy_from_slice(&held.to_le_bytes());
+        hub.answer(&Record::io_write(0xCF8, 4, 0x8000_08E0));
+        let answer = hub.answer(&Record::io_write(0xCFC + register % 4, width, data));
+        assert_eq!(answer, reached(Target::Register, 0x100 + register, 0));
+        hub.answer(&Record::io_read(0xCFC, 4)).value
+    }
+
+    /// The state afterwards, by the state held and the state written.
+    const AFTER: [[u32; 4]; 4] = [
+        // 00    01    10    11
+        [0b00, 0b00, 0b00, 0b11],
+        [0b00, 0b01, 0b01, 0b11],
+        [0b00, 0b10, 0b10, 0b11],
+        [0b00, 0b11, 0b11, 0b11],
+    ];
+
+    /// Each state held and each state written, in 1, 2 and 4 bytes, with bit 8 both ways in each: an unsupported state
+    /// leaves whatever is held.
+    #[test]
+    fn an_unsupported_power_state_leaves_the_two_bits() {
+        let (mut memory, mut table) = (vec![0; 8 << 20], Box::new([0; TABLE_WORDS]));
+        let mut hub = Gmch::new(Board::I82810, &mut memory, &mut table).expect("8 MiB is a memory");
+        for case in 0..4 * 4 * 2 * 2 {
+            let (old, new, held_8, data_8) = (case & 3, case >> 2 & 3, case >> 4 & 1, case >> 5);
+            // Read-only bits are written 0 and 1.
+            for other in [0, 0xFFFF_FEFC] {
+                let (held, data) = (held_8 << 8 | old, other | data_8 << 8 | new);
+                let state = AFTER[old as usize][new as usize];
+                let after = [1, 2, 4].map(|width| written(&mut hub, held, 0xE0, width, data));
+                // One byte does not reach bit 8.
+                let expected = [held_8 << 8 | state, data_8 << 8 | state, data_8 << 8 | state];
+                assert_eq!(after, expected, "{held:04X}h, written {data:X}h");
+            }
+        }
+    }
+
+    /// "a write touching that byte": no other write is one, whatever its data.
+    #[test]
+    fn a_write_past_the_low_byte_leaves_the_power_state() {
+        let (mut memory, mut table) = (vec![0; 8 << 20], Box::new([0; TABLE_WORDS]));
+        let mut hub = Gmch::new(Board::I82810, &mut memory, &mut table).expect("8 MiB is a memory");
+        for held in [0x000, 0x001, 0x002, 0x003, 0x100, 0x101, 0x102, 0x103] {
+            for data in 0..=0xFF {
+                for other in [0, 0xFFFF_FF00] {
+                    let taken = held & 3 | (data & 1) << 8;
+                    let at_e1 = [1, 2].map(|width| written(&mut hub, held, 0xE1, width, other | data));
+                    assert_eq!(at_e1, [taken; 2], "{held:04X}h, {data:02X}h at E1h");
+                    let past = [(0xE2, 1), (0xE2, 2), (0xE3, 1)];
+                    let past = past.map(|(register, width)| written(&mut hub, held, register, width, other | data));
+                    assert_eq!(past, [held; 3], "{held:04X}h, {data:02X}h past E1h");
+                }
+            }
+        }
+    }
+
+    /// What the proved function prints for each state held, each state written and each width.
+    #[test]
+    fn the_proved_function_leaves_what_the_reference_leaves() {
+        let (mut memory, mut table) = (vec![0; 8 << 20], Box::new([0; TABLE_WORDS]));
+        let mut hub = Gmch::new(Board::I82810, &mut memory, &mut table).expect("8 MiB is a memory");
+        let path = Path::new(env!("CARGO_MANIFEST_DIR")).join("../crates/vectors/stdout");
+        let text = fs::read_to_string(path).expect("what the proved functions print");
+        let number = |digits: &str| u32::from_str_radix(digits, 16).expect("hexadecimal digits");
+        let mut met = HashSet::new();
+        for line in text.lines().filter(|line| line.starts_with("PM_CS ")) {
+            // PM_CS 00000001, written 00000102 in 00000002 bytes: 00000101
+            let words: Vec<&str> = line.split([' ', ',', ':']).filter(|word| !word.is_empty()).collect();
+            let ["PM_CS", held, "written", data, "in", width, "bytes", after] = words[..] else {
+                panic!("{line}");
+            };
+            let [held, data, width, after] = [held, data, width, after].map(number);
+            assert!(held <= 3 && [1, 2, 4].contains(&width), "{line}");
+            assert_eq!(written(&mut hub, held, 0xE0, width as u8, data), after, "{line}");
+            assert!(met.insert((held, data & 3, width)), "{line}: met before");
+        }
+        assert_eq!(met.len(), 4 * 4 * 3, "pairs of states, by width");
     }
 }
