@@ -1,4 +1,4 @@
-//! Random lists of records that reach the corners of document 01 and of requests 5 and 10 of document 02.
+//! Random lists of records that reach the corners of document 01 and of requests 3, 5 and 10 of document 02.
 //!
 //! A list is made while the reference replays it, so that each record can aim at the state that it
 //! will meet: at the borders of the map as they stand, at entries and fences that are set, at the
@@ -105,6 +105,7 @@ impl<'m> Generator<'m> {
             usable_top: self.hub.usable_top(),
             window_base: self.hub.window_base(),
             fences: std::array::from_fn(|number| self.hub.fence(number).map_or(0, |fence| fence.0)),
+            pm_cs: u16::from_le_bytes([0xE0, 0xE1].map(|at| self.hub.config_byte(1, at).unwrap_or(0))),
         };
         self.hub.observer().words.meets = meets;
         let answer = self.hub.answer(&record);
@@ -161,7 +162,7 @@ impl<'m> Generator<'m> {
         if self.table_in_memory() && self.random.one_in(8) {
             return self.move_table();
         }
-        match self.random.below(67) {
+        match self.random.below(68) {
             0..=8 => self.access_window(),
             9..=14 => self.access_border(),
             15..=18 => self.access_memory(),
@@ -193,10 +194,11 @@ impl<'m> Generator<'m> {
             51..=52 => self.access_port(),
             53..=54 => self.break_record(),
             55 => self.subsystem(),
-            56 => self.overlap(),
-            57..=61 => self.parse(),
-            62..=64 => self.access_owned(),
-            65 => self.refuse_after_fencing(),
+            56 => self.power_management(),
+            57 => self.overlap(),
+            58..=62 => self.parse(),
+            63..=65 => self.access_owned(),
+            66 => self.refuse_after_fencing(),
             _ => self.reset(),
         }
     }
@@ -235,6 +237,9 @@ impl<'m> Generator<'m> {
             if !self.random.one_in(4) {
                 self.read_smram();
                 self.scene();
+            }
+            if self.random.one_in(2) {
+                self.config_read(1, 0xE0, 4);
             }
         }
     }
@@ -331,6 +336,30 @@ impl<'m> Generator<'m> {
             self.config_write(1, at, width, data);
         }
         self.config_read(1, 0x2C, 4);
+    }
+
+    /// The power state and bit 8, by parts, with what they then read.
+    fn power_management(&mut self) {
+        for _ in 0..4 {
+            let (at, width) = self.random.pick(&[
+                (0xE0, 1),
+                (0xE0, 1),
+                (0xE0, 2),
+                (0xE0, 2),
+                (0xE0, 4),
+                (0xE0, 4),
+                (0xE1, 1),
+                (0xE1, 2),
+                (0xE2, 1),
+                (0xE2, 2),
+                (0xE3, 1),
+            ]);
+            // Half of the time in the writable bits alone.
+            let bits = self.random.pick(&[0x0000_0103, 0xFFFF_FFFF]);
+            let data = self.random.word() & bits;
+            self.config_write(1, at, width, data);
+            self.config_read(1, 0xE0, 4);
+        }
     }
 
     fn access_configuration(&mut self) {

@@ -6,11 +6,13 @@ pub mod compare;
 pub mod generate;
 pub mod isolation;
 pub mod places;
+pub mod power;
 pub mod words;
 
 use mitrophel::reference::{Observer, Rule, TableWord, Touch};
 use mitrophel::{call, record, reference, Answer, Board, Record, Target};
 use places::Places;
+use power::Power;
 use std::fmt;
 use words::{Event, Words};
 
@@ -122,6 +124,7 @@ impl Observer for Watch {
             let by_word = self.words.word_refused();
             self.coverage.places.note(self.board, &self.words.meets, by_word, record, answer);
         }
+        self.coverage.power.note(self.board, self.words.meets.pm_cs, record, answer);
         self.words.answered();
         self.coverage.kinds[usize::from(record.kind).min(10) % 10] += 1;
         self.coverage.codes[self.board][usize::from(answer.code)] += 1;
@@ -129,7 +132,7 @@ impl Observer for Watch {
     }
 }
 
-/// How often each kind, code, target, rule and event was seen, and each place of a refusal.
+/// How often each kind, code, target, rule and event was seen, each place of a refusal, and each write of a power state.
 #[derive(Clone, Default)]
 pub struct Coverage {
     /// By kind; number 0 counts the records of no kind.
@@ -140,6 +143,7 @@ pub struct Coverage {
     pub rules: [u64; Rule::ALL.len()],
     pub events: [u64; Event::ALL.len()],
     pub places: Places,
+    pub power: Power,
 }
 
 impl Coverage {
@@ -150,13 +154,17 @@ impl Coverage {
     fn counts(&self) -> impl Iterator<Item = &u64> {
         let codes = self.codes.iter().flatten();
         let counts = self.kinds.iter().chain(codes).chain(&self.targets).chain(&self.rules).chain(&self.events);
-        counts.chain(self.places.counts())
+        counts.chain(self.places.counts()).chain(self.power.counts())
     }
 
     fn counts_mut(&mut self) -> impl Iterator<Item = &mut u64> {
         let codes = self.codes.iter_mut().flatten();
         let counts = self.kinds.iter_mut().chain(codes).chain(&mut self.targets);
-        counts.chain(&mut self.rules).chain(&mut self.events).chain(self.places.counts_mut())
+        counts
+            .chain(&mut self.rules)
+            .chain(&mut self.events)
+            .chain(self.places.counts_mut())
+            .chain(self.power.counts_mut())
     }
 
     /// What each of the counts is of; none for what cannot be. Code 1 is the call's own result and is in no answer.
@@ -170,7 +178,7 @@ impl Coverage {
         names.extend(Rule::ALL.iter().map(Rule::to_string));
         names.extend(Event::ALL.iter().map(Event::to_string));
         let names = names.into_iter().map(|name| Some(name).filter(|name| !name.starts_with("code 1,")));
-        names.chain(Places::names()).collect()
+        names.chain(Places::names()).chain(Power::names().into_iter().map(Some)).collect()
     }
 
     /// Each count with its name.

@@ -77,6 +77,8 @@ pub struct Meets {
     pub usable_top: u32,
     pub window_base: u32,
     pub fences: [u32; 8],
+    /// Device 1's register E0h.
+    pub pm_cs: u16,
 }
 
 /// Counts the [`Event`]s of one list.
