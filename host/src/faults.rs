@@ -280,6 +280,40 @@ faults! {
     /// Code 13 shows the offset of an address in the window.
     Code13ShowsOffset,
 
+    // Power states that do not exist: request 3 of document 02.
+    /// Every power state is stored.
+    AnyStateStored,
+    /// Power state 01 is stored.
+    State01Stored,
+    /// Power state 10 is stored.
+    State10Stored,
+    /// Power state 00 is discarded.
+    State00Discarded,
+    /// Power state 11 is discarded.
+    State11Discarded,
+    /// A write of one byte stores every power state.
+    AnyStateStoredByOneByte,
+    /// A write of two bytes stores every power state.
+    AnyStateStoredByTwoBytes,
+    /// A write of four bytes stores every power state.
+    AnyStateStoredByFourBytes,
+    /// A write with an unsupported power state leaves bit 8, too.
+    WholeWriteDiscarded,
+    /// An unsupported power state is stored as 00.
+    DiscardedStateIs00,
+    /// An unsupported power state is stored as 11.
+    DiscardedStateIs11,
+    /// A power state is discarded where bits 7:2 of the same byte are not zero.
+    WholeByteIsState,
+    /// A write that begins at E1h leaves bit 8 where its data would be an unsupported power state.
+    StateLookedForAtE1,
+    /// A write with an unsupported power state is answered by the hub.
+    DiscardedWriteToHub,
+    /// Reset leaves the power state and bit 8.
+    ResetKeepsPowerState,
+    /// Rules 7 and 8 do not act in power state 11.
+    D3StopsDecoding,
+
     // Fences.
     /// The highest matching fence wins.
     HighestFenceWins,

@@ -255,7 +255,7 @@ impl<'m, O: Observer, F: Faults> Gmch<'m, O, F> {
     /// "Reset restores defaults and zeroes the table; memory stays." Of a table in main memory: "A reset leaves those
     /// words."
     fn reset(&mut self) {
-        let (smram, table_control) = (self.smram(), self.table_control);
+        let (smram, table_control, pm_cs) = (self.smram(), self.table_control, self.pm_cs());
         let in_memory = self.table_in_memory();
         if in_memory && self.wrong(Fault::ResetClearsWords) {
             self.clear_words();
@@ -269,6 +269,9 @@ impl<'m, O: Observer, F: Faults> Gmch<'m, O, F> {
         }
         if smram.locked() && self.wrong(Fault::ResetKeepsLock) {
             self.put_back(smram);
+        }
+        if self.wrong(Fault::ResetKeepsPowerState) {
+            self.put_back_power(pm_cs);
         }
     }
 

@@ -24,7 +24,7 @@ fn caught(lists: &Lists, list: &List, memory: &mut [u8], fault: Fault) -> bool {
     caught
 }
 
-/// Each of the wrong references differs from document 01, or from request 5 or 10 of document 02, in one sentence,
+/// Each of the wrong references differs from document 01, or from request 3, 5 or 10 of document 02, in one sentence,
 /// which its comment in `faults` states.
 #[test]
 fn every_wrong_reference_is_caught_by_the_random_comparison() {

@@ -69,6 +69,7 @@ const GMADR: usize = 0x10;
 const MMADR: usize = 0x14;
 /// Power management control and status.
 const PM_CS: usize = 0xE0;
+const PM_CS_HIGH: usize = 0xE1;
 /// The power state in PM_CS's low byte: 00 is D0, 11 is D3.
 const POWER_STATE: u8 = 0b11;
 
@@ -98,14 +99,9 @@ const fn layout(rows: &[Row]) -> Layout {
 
 static LAYOUTS: [Layout; 2] = [layout(&DEVICE_0), layout(&DEVICE_1)];
 
-/// Request 3 of document 02, "Power states that do not exist": "Only 00 and 11 are supported. So a write touching that
-/// byte with 01 or 10 leaves the two bits; the other bits of the same write still act." The plain bits of PM_CS's low
-/// byte for this write.
-fn power_state_mask(byte: u8, plain: u8) -> u8 {
-    match byte & POWER_STATE {
-        0b01 | 0b10 => plain & !POWER_STATE,
-        _ => plain,
-    }
+/// Whether data written at PM_CS has power state 01 or 10.
+const fn unsupported(data: u32) -> bool {
+    matches!(data as u8 & POWER_STATE, 0b01 | 0b10)
 }
 
 /// A device's 256 bytes at cold start.
@@ -265,6 +261,10 @@ impl<O: Observer, F: Faults> Gmch<'_, O, F> {
             None => self.config_read(device, register, access.width as usize),
             Some(data) => {
                 self.config_write(device, register, access.width as usize, data);
+                let discarded = (device, register) == (1, PM_CS) && unsupported(data);
+                if discarded && self.wrong(Fault::DiscardedWriteToHub) {
+                    return reached(Target::Hub, access.address, 0);
+                }
                 0
             }
         };
@@ -287,7 +287,7 @@ impl<O: Observer, F: Faults> Gmch<'_, O, F> {
     fn config_write(&mut self, device: usize, register: usize, width: usize, data: u32) {
         let touched = register..register + width;
         let written = self.subsystem_written;
-        for (at, byte) in touched.zip(data.to_le_bytes()) {
+        for (at, mut byte) in touched.zip(data.to_le_bytes()) {
             let mut plain = LAYOUTS[device].plain[at];
             let mut clears = LAYOUTS[device].clears[at];
             match (device, at) {
@@ -296,7 +296,8 @@ impl<O: Observer, F: Faults> Gmch<'_, O, F> {
                     plain = self.subsystem_mask(at - 0x2C, written);
                     self.subsystem_written |= 1 << (at - 0x2C);
                 }
-                (1, PM_CS) => plain = power_state_mask(byte, plain),
+                (1, PM_CS) => (byte, plain) = self.power_state(byte, width, plain),
+                (1, PM_CS_HIGH) => plain = self.pme_mask(register, data, plain),
                 _ => {}
             }
             let old = self.devices[device][at];
@@ -328,6 +329,45 @@ impl<O: Observer, F: Faults> Gmch<'_, O, F> {
         }
     }
 
+    /// Request 3 of document 02, "Power states that do not exist": "Only 00 and 11 are supported. So a write touching
+    /// that byte with 01 or 10 leaves the two bits". PM_CS's low byte as written, and its plain bits for this write.
+    fn power_state(&self, byte: u8, width: usize, plain: u8) -> (u8, u8) {
+        let taken = match byte & POWER_STATE {
+            0b00 => !self.wrong(Fault::State00Discarded),
+            0b01 => self.wrong(Fault::State01Stored),
+            0b10 => self.wrong(Fault::State10Stored),
+            _ => !self.wrong(Fault::State11Discarded),
+        };
+        let taken_by_width = match width {
+            1 => self.wrong(Fault::AnyStateStoredByOneByte),
+            2 => self.wrong(Fault::AnyStateStoredByTwoBytes),
+            _ => self.wrong(Fault::AnyStateStoredByFourBytes),
+        };
+        let reserved = byte & !POWER_STATE != 0 && self.wrong(Fault::WholeByteIsState);
+        if (taken || taken_by_width || self.wrong(Fault::AnyStateStored)) && !reserved {
+            (byte, plain)
+        } else if self.wrong(Fault::DiscardedStateIs00) {
+            (0b00, plain)
+        } else if self.wrong(Fault::DiscardedStateIs11) {
+            (0b11, plain)
+        } else {
+            (byte, plain & !POWER_STATE)
+        }
+    }
+
+    /// "the other bits of the same write still act": the plain bits of PM_CS's high byte for a write that begins at this
+    /// register. Only wrong references look at its power state.
+    fn pme_mask(&self, register: usize, data: u32, plain: u8) -> u8 {
+        let looks = match register {
+            PM_CS => self.wrong(Fault::WholeWriteDiscarded),
+            _ => self.wrong(Fault::StateLookedForAtE1),
+        };
+        match looks && unsupported(data) {
+            true => 0,
+            false => plain,
+        }
+    }
+
     /// Sets SMRAM's error bit, which the lock does not hold: it stops writes only.
     pub(super) fn set_error(&mut self, access: Access) {
         let frozen = self.smram().locked() && self.wrong(Fault::ErrorBitFrozenByLock);
@@ -340,6 +380,16 @@ impl<O: Observer, F: Faults> Gmch<'_, O, F> {
     /// Puts a locked SMRAM back after a reset ([`Fault::ResetKeepsLock`]).
     pub(super) fn put_back(&mut self, smram: Smram) {
         self.devices[0][SMRAM] = smram.0;
+    }
+
+    /// Puts PM_CS back after a reset ([`Fault::ResetKeepsPowerState`]).
+    pub(super) fn put_back_power(&mut self, pm_cs: [u8; 2]) {
+        self.devices[1][PM_CS..=PM_CS_HIGH].copy_from_slice(&pm_cs);
+    }
+
+    /// Power management control and status, low byte first.
+    pub(super) fn pm_cs(&self) -> [u8; 2] {
+        [self.devices[1][PM_CS], self.devices[1][PM_CS_HIGH]]
     }
 
     /// A byte of a device's configuration space, as a read gives it; none where there is none.
@@ -452,7 +502,8 @@ impl<O: Observer, F: Faults> Gmch<'_, O, F> {
     /// ```
     #[inline]
     pub fn graphics_decodes(&self) -> bool {
-        self.smram().graphics_on() && self.devices[1][COMMAND] & 2 != 0
+        let asleep = self.wrong(Fault::D3StopsDecoding) && self.devices[1][PM_CS] & POWER_STATE == 0b11;
+        self.smram().graphics_on() && self.devices[1][COMMAND] & 2 != 0 && !asleep
     }
 
     #[inline]
