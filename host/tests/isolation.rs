@@ -29,5 +29,7 @@ fn two_runs_that_differ_in_protected_memory_cannot_be_told_apart() {
     assert!(tally.protected_pages > 0);
     assert!(tally.protected_words > 0);
     assert!(tally.shown_offsets.iter().all(|&shown| shown > 0));
+    assert!(tally.power_states.iter().all(|&held| held > 0));
+    assert!(tally.discarded_states > 0);
     assert!(tally.runs > 0);
 }

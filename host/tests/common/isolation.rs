@@ -35,6 +35,9 @@ pub struct Tally {
     pub protected_words: u64,
     /// Window accesses whose refusal showed an offset other than 0, with 3, 4, 5, 6, 7 and 9.
     pub shown_offsets: [u64; 6],
+    /// Writes of a power state that met 00 and that met 11, and those that were discarded.
+    pub power_states: [u64; 2],
+    pub discarded_states: u64,
     /// Parser runs that completed a step.
     pub runs: u64,
 }
@@ -180,6 +183,11 @@ impl Trial {
         for (count, (shown, before)) in tally.shown_offsets.iter_mut().zip(shown.into_iter().zip(before)) {
             *count += shown - before;
         }
+        let (power, before) = (&watch.coverage.power, &prefix_coverage.power);
+        for (count, (held, before)) in tally.power_states.iter_mut().zip(power.held().into_iter().zip(before.held())) {
+            *count += held - before;
+        }
+        tally.discarded_states += power.discarded() - before.discarded();
         let landing: Vec<bool> =
             (0..records.len()).map(|i| i >= prefix && lands(&records[i], &watch.landings[i])).collect();
         let mut trial = Trial {
