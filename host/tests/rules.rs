@@ -207,6 +207,7 @@ fn every_configuration_word_has_its_default_and_its_writable_bits() {
         (0x34, 0x0000_00DC, 0x0000_00DC, 0x0000_00DC),
         (0x3C, 0x0000_0100, 0x0000_01FF, 0x0000_0100),
         (0xDC, 0x0021_0001, 0x0021_0001, 0x0021_0001),
+        // Bits 1:0 take 11 and 00, and nothing else: request 3 of document 02.
         (0xE0, 0x0000_0000, 0x0000_0103, 0x0000_0000),
     ];
     for (device, rows) in [(0, &device_0[..]), (1, &device_1[..])] {
