@@ -257,6 +257,124 @@ fn values_that_were_refused_by_protected_memory_are_not_shown() {
     }
 }
 
+/// PM_CS as an access of so many bytes at E0h is told.
+fn power(width: u8, state: u32, enable: u32) -> String {
+    let state = if state == 0 { "power state D0" } else { "power state D3" };
+    match width {
+        1 => state.to_string(),
+        _ => format!("{state}, {}", pme(enable)),
+    }
+}
+
+/// The same at E1h.
+fn pme(enable: u32) -> &'static str {
+    if enable == 0 {
+        "PME not enabled"
+    } else {
+        "PME enabled"
+    }
+}
+
+/// Request 3 of document 02: each state written over each state held, in one, two and four bytes, with bit 8 held and
+/// written both ways; then reads of the same widths.
+#[test]
+fn a_power_state_is_told_and_whether_one_was_discarded() {
+    let mut trace = "config write dev0.SMRAM 40h\n".to_string();
+    for (held, held_enable) in [(0, 0), (0, 1), (3, 0), (3, 1)] {
+        for (written, enable) in (0..4).flat_map(|state| [(state, 0), (state, 1)]) {
+            // The last one with all the bits that read 0.
+            for (width, other) in [(1, 0), (2, 0), (4, 0), (4, 0xFFFF_FEFC)] {
+                let (state, discarded) = match written {
+                    1 => (held, "; unsupported power state 01 discarded"),
+                    2 => (held, "; unsupported power state 10 discarded"),
+                    _ => (written, ""),
+                };
+                // A single byte has no bit 8.
+                let (enable, data) = match width {
+                    1 => (held_enable, written),
+                    _ => (enable, other | enable << 8 | written),
+                };
+                let (before, after) = (held_enable << 8 | held, enable << 8 | state);
+                let (name, now) = match width {
+                    1 => ("dev1.E0h", format!("{state:02X}h")),
+                    2 => ("dev1.PM_CS", format!("{after:04X}h")),
+                    _ => ("dev1.E0h", format!("{after:08X}h")),
+                };
+                let [one, two, four] = [1, 2, 4].map(|width| power(width, state, enable));
+                let (set, left, pme) = (power(2, held, held_enable), power(width, state, enable), pme(enable));
+                trace.push_str(&format!(
+                    "config write dev1.PM_CS {before:X}h #> dev1.PM_CS is now {before:04X}h ({set})\n\
+                     config write{width} dev1.E0h {data:X}h #> {name} is now {now} ({left}{discarded})\n\
+                     config read1 dev1.E0h #> dev1.E0h = {state:02X}h ({one})\n\
+                     config read1 dev1.E1h #> dev1.E1h = {enable:02X}h ({pme})\n\
+                     config read2 dev1.E1h #> dev1.E1h = {enable:04X}h ({pme})\n\
+                     config read dev1.PM_CS #> dev1.PM_CS = {after:04X}h ({two})\n\
+                     config read4 dev1.E0h #> dev1.E0h = {after:08X}h ({four})\n\
+                     config read2 dev1.E2h #> dev1.E2h = 0000h (configuration, device 1)\n",
+                ));
+            }
+        }
+    }
+    for board in ["82810", "dc100", "82810-main", "dc100-main"] {
+        let run = run_with(&["replay", "--check", "--board", board, "-"], trace.as_bytes());
+        let all = "standard input: 1,024 expectations, all met\n";
+        assert_eq!((run.status, run.text.as_str(), run.errors.as_str()), (DONE, all, ""), "{board}");
+    }
+    // Each of the two states is written 32 times; an expectation that does not say so is not met.
+    for state in ["; unsupported power state 01 discarded", "; unsupported power state 10 discarded"] {
+        let run = run_with(&["replay", "--check", "-"], trace.replace(state, "").as_bytes());
+        assert_eq!(run.status, UNMET);
+        assert!(run.text.ends_with(" expectations, 32 not met\n"), "{}", run.text);
+    }
+}
+
+/// "a write touching that byte": E1h has PME enable alone, E2h and E3h nothing, and device 0 lists none of them.
+#[test]
+fn a_write_beside_the_power_state_discards_none() {
+    for state in [0, 3] {
+        let mut trace = format!("config write dev0.SMRAM 40h\nconfig write dev1.PM_CS {state}\n");
+        for data in [0x01, 0x02, 0x03, 0x00, 0xFD, 0xFE] {
+            let enable = data & 1;
+            let (pme, whole) = (pme(enable), power(2, state, enable));
+            trace.push_str(&format!(
+                "config write1 dev1.E1h {data:X}h #> dev1.E1h is now {enable:02X}h ({pme})\n\
+                 config write2 dev1.E1h {:X}h #> dev1.E1h is now {enable:04X}h ({pme})\n\
+                 config write1 dev1.E2h {data:X}h #> dev1.E2h is now 00h (configuration, device 1)\n\
+                 config write2 dev1.E2h {data:X}h #> dev1.E2h is now 0000h (configuration, device 1)\n\
+                 config write1 dev1.E3h {data:X}h #> dev1.E3h is now 00h (configuration, device 1)\n\
+                 config write1 dev0.E0h {data:X}h #> dev0.E0h is now 00h (configuration, device 0)\n\
+                 config write4 dev0.E0h {data:X}h #> dev0.E0h is now 00000000h (configuration, device 0)\n\
+                 config read dev1.PM_CS #> dev1.PM_CS = {enable:02X}{state:02X}h ({whole})\n",
+                0xFF00 | data,
+            ));
+        }
+        let run = run_with(&["replay", "--check", "-"], trace.as_bytes());
+        let all = "standard input: 48 expectations, all met\n";
+        assert_eq!((run.status, run.text.as_str(), run.errors.as_str()), (DONE, all, ""));
+    }
+}
+
+/// "the write completes": its answer is that of every other write, and the words are in both forms for programs.
+#[test]
+fn a_discarded_power_state_is_no_refusal() {
+    let setup = "config write dev0.SMRAM 40h\nconfig write dev1.PM_CS 103h\n";
+    let answers = [0, 1, 2, 3].map(|state| {
+        let trace = format!("{setup}config write dev1.PM_CS 10{state}h\n");
+        run_with(&["replay", "--answers", "-", "-"], trace.as_bytes()).out.split_off(5 * 16)
+    });
+    assert_eq!(answers, [[0, 2, 0, 0, 0xE0, 1, 0, 0, 0, 0, 0, 0, 0, 0, 0, 0]; 4]);
+    let trace = format!("{setup}config write dev1.PM_CS 2\n");
+    let last = |form| run_with(&["replay", form, "-"], trace.as_bytes()).text.lines().last().map(str::to_string);
+    let words = "power state D3, PME not enabled; unsupported power state 10 discarded";
+    let json = format!(
+        "\"code\":0,\"refusal\":null,\"target\":\"register\",\"interrupt\":false,\"at\":480,\"value\":0,\"steps\":0,\
+         \"outcome\":\"dev1.PM_CS is now 0003h\",\"reason\":\"{words}\",\"redacted\":false}}"
+    );
+    assert!(last("--json").is_some_and(|line| line.ends_with(&json)), "{:?}", last("--json"));
+    let csv = format!(",0,,register,false,480,0,0,dev1.PM_CS is now 0003h,\"{words}\",false");
+    assert!(last("--csv").is_some_and(|line| line.ends_with(&csv)), "{:?}", last("--csv"));
+}
+
 /// The table in main memory, over the key and past the top: request 10 of document 02.
 const TABLE: &str = "\
 config write dev0.SMRAM 4Ch

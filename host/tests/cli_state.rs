@@ -58,7 +58,7 @@ fn an_empty_list_shows_the_cold_start() {
 fn every_register_is_as_a_read_finds_it() {
     let setup = format!(
         "{DESK}config write dev0.MISCC2 5Ah\nconfig write dev1.SVID 1234h\nconfig write dev1.GMADR C2000008h\n\
-         config write dev0.BUFF_SC 1234h\nwrite FENCE3 03F81771h\nwrite LP_RING_TAIL 12340h\nwrite LP_RING_HEAD A0000104h\n\
+         config write dev0.BUFF_SC 1234h\nconfig write dev1.PM_CS 3\nconfig write dev1.PM_CS 102h\nwrite FENCE3 03F81771h\nwrite LP_RING_TAIL 12340h\nwrite LP_RING_HEAD A0000104h\n\
          write LP_RING_START 3FFF000h\nwrite LP_RING_LENGTH 1F001h\nwrite IER 1234h\nwrite IMR 4321h\nread4 700000h\n"
     );
     let text = state(&setup);
@@ -83,7 +83,25 @@ fn every_register_is_as_a_read_finds_it() {
         assert!(answer.contains(&format!("{} = {}", row[1], row[2])), "{row:?}: {answer}");
     }
     expect_rows(&text, "Device 0", &["A0000h-BFFFFh for management mode; error bit set"]);
-    expect_rows(&text, "Device 1", &["10h  GMADR     C0000008h  window at C0000000h"]);
+    let rows =
+        ["10h  GMADR     C0000008h  window at C0000000h", "E0h  PM_CS         0103h  power state D3, PME enabled"];
+    expect_rows(&text, "Device 1", &rows);
+}
+
+/// Request 3 of document 02: the state that is left is shown, not the one that was written.
+#[test]
+fn the_power_state_is_told() {
+    let hidden = "Device 1, graphics (hidden while GMS is 00)";
+    expect_rows(&state(""), hidden, &["E0h  PM_CS         0000h  power state D0, PME not enabled"]);
+    for (held, name) in [(0, "D0"), (3, "D3")] {
+        for (written, left, left_name) in [(0, 0, "D0"), (1, held, name), (2, held, name), (3, 3, "D3")] {
+            for (enable, pme) in [(0, "PME not enabled"), (1, "PME enabled")] {
+                let writes = format!("config write dev1.PM_CS {held}\nconfig write dev1.PM_CS {enable}0{written}h\n");
+                let row = format!("E0h  PM_CS         0{enable}0{left}h  power state {left_name}, {pme}");
+                expect_rows(&state(&format!("{DESK}{writes}")), "Device 1, graphics", &[&row]);
+            }
+        }
+    }
 }
 
 #[test]

@@ -160,13 +160,16 @@ fn a_trace_may_have_any_number_of_records() {
     assert_eq!((run.status, run.errors.as_str()), (DONE, ""));
 }
 
-/// After the lock a write of SMRAM has no effect, and an entry's write may go anywhere: a comment says what
-/// the value says, not what happens.
+/// After the lock a write of SMRAM has no effect, an entry's write may go anywhere, and a power state may be discarded: a
+/// comment says what the value says, not what happens.
 #[test]
 fn comments_of_a_listing_say_what_is_written() {
     let trace = format!(
         "{}config write dev0.SMRAM 42h\nconfig write dev0.SMRAM 8Ch\nreset\nconfig write dev0.SMRAM 40h\n\
-         config write dev1.MMADR 00100000h\nwrite4 MMIO+10000h 3\nwrite4 MMIO+2000h 21h\n",
+         config write dev1.MMADR 00100000h\nwrite4 MMIO+10000h 3\nwrite4 MMIO+2000h 21h\n\
+         config write dev1.PM_CS 103h\nconfig write dev1.PM_CS 2\nconfig write4 dev1.E0h 101h\n\
+         config write1 dev1.E0h 1\nconfig write1 dev1.E1h 2\nconfig write1 dev1.E2h 2\nconfig read dev1.PM_CS\n\
+         config write2 dev0.E0h 103h\n",
         registers()
     );
     let listing = run_with(&["disasm", "-"], &run_with(&["asm", "-"], trace.as_bytes()).out);
@@ -180,6 +183,11 @@ fn comments_of_a_listing_say_what_is_written() {
             "as written: graphics on, nothing taken",
             "as written: display cache page 0h",
             "as written: 512 KiB at 0h, pitch 512",
+            "as written: power state D3, PME enabled",
+            "as written: unsupported power state 10, PME not enabled",
+            "as written: unsupported power state 01, PME enabled",
+            "as written: unsupported power state 01",
+            "as written: PME not enabled",
         ]
     );
 }

@@ -420,10 +420,11 @@ fn master_reason(step: &Step<'_, '_>) -> String {
     format!("hub masters reach 0-9FFFFh and 100000h-{:X}h", top.wrapping_sub(1))
 }
 
-/// What a configuration register's value means, for those that decide where addresses go.
+/// What a configuration register's value means, for those that decide where addresses go and for the power state.
 fn config_reason(step: &Step<'_, '_>) -> String {
     let hub = step.hub;
     let (device, at) = (step.answer.address >> 8, step.answer.address & 0xFF);
+    let other = || format!("configuration, device {device}");
     match (device, at) {
         (0, 0x70) => words::smram(hub.smram()),
         (0, 0x72) => format!("window of {}", numbers::bytes(hub.window_bytes().into())),
@@ -431,7 +432,18 @@ fn config_reason(step: &Step<'_, '_>) -> String {
         (1, 0x04) => "registers and window off".to_string(),
         (1, 0x10..=0x13) => format!("window at {:X}h", hub.window_base()),
         (1, 0x14..=0x17) => format!("registers at {:X}h", hub.registers_base()),
-        _ => format!("configuration, device {device}"),
+        (1, _) => power_reason(step, at).unwrap_or_else(other),
+        _ => other(),
+    }
+}
+
+/// PM_CS as an access reads or leaves it, and the power state that a write brought in vain: request 3 of document 02.
+fn power_reason(step: &Step<'_, '_>, at: u32) -> Option<String> {
+    let fields = words::power(at, step.record.width, step.now.unwrap_or(step.answer.value))?;
+    let touched = is_write(step) && at == 0xE0;
+    match words::discarded_power_state(step.record.data).filter(|_| touched) {
+        Some(discarded) => Some(format!("{fields}; {discarded}")),
+        None => Some(fields),
     }
 }
 

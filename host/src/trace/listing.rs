@@ -180,9 +180,12 @@ fn config(records: &[Record]) -> Option<Line> {
         Kind::IoWrite => format!("config write{width} {name} {}", numbers::data(access.data, access.width)),
         _ => return None,
     };
-    let smram = access.kind() == Some(Kind::IoWrite) && name == "dev0.SMRAM";
-    let comment = smram.then(|| as_written(&words::smram(Smram(access.data as u8 & !1))));
-    Some(Line { taken: 2, text, comment })
+    let fields = match (access.kind()?, device) {
+        (Kind::IoWrite, 0) if name == "dev0.SMRAM" => Some(words::smram(Smram(access.data as u8 & !1))),
+        (Kind::IoWrite, 1) => words::power(at, access.width, access.data),
+        _ => None,
+    };
+    Some(Line { taken: 2, text, comment: fields.map(|fields| as_written(&fields)) })
 }
 
 /// The configuration register that a record selects, if it is the write that a macro makes.

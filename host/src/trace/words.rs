@@ -38,6 +38,50 @@ pub fn smram(smram: Smram) -> String {
     parts.join("; ")
 }
 
+/// The fields of PM_CS (device 1 register E0, two bytes) that an access at this register has: the power state in bits
+/// 1:0, PME enable in bit 8. `value` is what was read or written there.
+///
+/// ```
+/// use mitrophel::trace::words;
+///
+/// assert_eq!(words::power(0xE0, 2, 0x0103).as_deref(), Some("power state D3, PME enabled"));
+/// assert_eq!(words::power(0xE0, 1, 0x00).as_deref(), Some("power state D0"));
+/// assert_eq!(words::power(0xE1, 1, 0x01).as_deref(), Some("PME enabled"));
+/// assert_eq!(words::power(0xE2, 2, 0x0000), None);
+/// ```
+pub fn power(at: u32, width: u8, value: u32) -> Option<String> {
+    let enable = |bit: u32| if value >> bit & 1 != 0 { "PME enabled" } else { "PME not enabled" };
+    match (at, width) {
+        (0xE0, 1) => Some(power_state(value).to_string()),
+        (0xE0, 2 | 4) => Some(format!("{}, {}", power_state(value), enable(8))),
+        (0xE1, 1 | 2) => Some(enable(0).to_string()),
+        _ => None,
+    }
+}
+
+/// "Only 00 and 11 are supported" (request 3 of document 02).
+fn power_state(value: u32) -> &'static str {
+    match value & 3 {
+        0b00 => "power state D0",
+        0b01 => "unsupported power state 01",
+        0b10 => "unsupported power state 10",
+        _ => "power state D3",
+    }
+}
+
+/// The power state in what is written at device 1 register E0, if it is discarded: "a write touching that byte with 01 or
+/// 10 leaves the two bits" (request 3 of document 02).
+///
+/// ```
+/// use mitrophel::trace::words;
+///
+/// assert_eq!(words::discarded_power_state(0x0101).as_deref(), Some("unsupported power state 01 discarded"));
+/// assert_eq!(words::discarded_power_state(0x0103), None);
+/// ```
+pub fn discarded_power_state(data: u32) -> Option<String> {
+    matches!(data & 3, 0b01 | 0b10).then(|| format!("{} discarded", power_state(data)))
+}
+
 /// A fence register's fields, good or ill-formed.
 ///
 /// ```
@@ -207,6 +251,33 @@ mod tests {
         assert_eq!(smram(Smram(0x00)), "graphics off");
         assert_eq!(smram(Smram(0x51)), "graphics on, nothing taken; HSEG; error bit set");
         assert_eq!(smram(Smram(0x44)), "graphics on, nothing taken; A0000h-BFFFFh general memory");
+    }
+
+    #[test]
+    fn pm_cs_is_said_in_words_as_far_as_an_access_has_it() {
+        for (state, words) in
+            ["power state D0", "unsupported power state 01", "unsupported power state 10", "power state D3"]
+                .into_iter()
+                .enumerate()
+        {
+            for enable in 0..2 {
+                let value = 0xFFFF_FEFC | enable << 8 | state as u32;
+                let pme = if enable == 0 { "PME not enabled" } else { "PME enabled" };
+                assert_eq!(power(0xE0, 1, value).as_deref(), Some(words));
+                for width in [2, 4] {
+                    assert_eq!(power(0xE0, width, value), Some(format!("{words}, {pme}")));
+                }
+                for width in [1, 2] {
+                    assert_eq!(power(0xE1, width, value >> 8).as_deref(), Some(pme));
+                }
+                let discarded = matches!(state, 1 | 2).then(|| format!("{words} discarded"));
+                assert_eq!(discarded_power_state(value), discarded);
+            }
+        }
+        // Other registers, and accesses that are refused.
+        for (at, width) in [(0xDE, 2), (0xDF, 1), (0xE0, 0), (0xE0, 3), (0xE1, 4), (0xE2, 1), (0xE2, 2), (0xE3, 1)] {
+            assert_eq!(power(at, width, u32::MAX), None, "{width} bytes at {at:X}h");
+        }
     }
 
     /// The words and the reference agree on which fences are ill-formed.

@@ -1,4 +1,5 @@
-//! The registers by name, with their fields in words where document 01 gives them a meaning.
+//! The registers by name, with their fields in words where document 01, or a request of document 02 that is in force, gives
+//! them a meaning.
 
 use super::Page;
 use crate::cli::names::{self, Register};
@@ -38,7 +39,8 @@ fn config_value(hub: &Hub<'_>, device: usize, row: &Register) -> u32 {
 }
 
 fn config_words(hub: &Hub<'_>, board: Board, device: usize, row: &Register) -> String {
-    let memory_on = config_value(hub, device, row) & 2 != 0;
+    let value = config_value(hub, device, row);
+    let memory_on = value & 2 != 0;
     match (device, row.name) {
         (_, "VID") => "Intel".to_string(),
         (_, "DID") => chip(board).to_string(),
@@ -49,6 +51,7 @@ fn config_words(hub: &Hub<'_>, board: Board, device: usize, row: &Register) -> S
         (1, "PCICMD") => "memory not enabled: window and registers are off".to_string(),
         (1, "GMADR") => format!("window at {:X}h", hub.window_base()),
         (1, "MMADR") => format!("registers at {:X}h", hub.registers_base()),
+        (1, "PM_CS") => words::power(row.at, row.bytes, value).unwrap_or_default(),
         _ => String::new(),
     }
 }
