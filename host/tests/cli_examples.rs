@@ -39,6 +39,7 @@ samples! {
     fault_of_the_third_model_step_count_with_a_key_of_no_ops: "fault-3-step-count-no-ops",
     fault_of_the_third_model_step_count_with_a_key_of_interrupts: "fault-3-step-count-interrupts",
     request_2_cheaper_fences: "request-2-cheaper-fences",
+    request_3_power_states: "request-3-power-states",
     request_5_where_it_was_refused: "request-5-where-it-was-refused",
     request_5_word_of_the_table: "request-5-word-of-the-table",
     request_10_table_in_main_memory: "request-10-table-in-main-memory",
