@@ -375,6 +375,19 @@ fn a_discarded_power_state_is_no_refusal() {
     assert!(last("--csv").is_some_and(|line| line.ends_with(&csv)), "{:?}", last("--csv"));
 }
 
+/// The manual page's line is the one that is printed.
+#[test]
+fn the_manual_page_has_the_words_of_a_discarded_power_state() {
+    let page = fs::read_to_string(concat!(env!("CARGO_MANIFEST_DIR"), "/mitrophel.1")).expect("the manual page");
+    let line = page.lines().find(|line| line.starts_with("dev1.PM_CS is now ")).expect("a line");
+    let trace = format!(
+        "config write dev0.SMRAM 40h\nconfig write dev1.PM_CS 3\nconfig write dev1.PM_CS 101h\n    #> {line}\n"
+    );
+    let run = run_with(&["replay", "--check", "-"], trace.as_bytes());
+    assert_eq!((run.status, run.errors.as_str()), (DONE, ""), "{}", run.text);
+    assert!(line.ends_with(" discarded)"), "{line}");
+}
+
 /// The table in main memory, over the key and past the top: request 10 of document 02.
 const TABLE: &str = "\
 config write dev0.SMRAM 4Ch

@@ -52,9 +52,10 @@ Usage: mitrophel replay [OPTION].. FILE
 Replay the records of FILE from a cold start, by the proved call, and print
 each with its answer: what was accessed, where it went, by which rule, or the
 refusal and why. An access that is refused in the window is told with the table
-entry and the window offset, which the answer's address field holds. FILE is a
-text trace or the binary form, told apart by its content; '-' is standard
-input.
+entry and the window offset, which the answer's address field holds. A write
+that brings power state 01 or 10 to dev1.PM_CS leaves the state as it was, and
+is told with 'discarded'. FILE is a text trace or the binary form, told apart
+by its content; '-' is standard input.
 
   --check           compare the answers with what the trace expects, '#> ..'
                     beside or below a line; exit with 1 if one differs
