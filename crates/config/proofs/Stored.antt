@@ -1,9 +1,10 @@
 -- A write by the bits of an aligned word is the definitions' write.
-use mathlib.Core.Path.{_≡_, refl}
+use mathlib.Core.Path.{_≡_, refl, sym, _∙_}
 use mathlib.Core.List.{List}
 use mathlib.Core.Bool.{Bool, _||_}
 use Prim.Native.Nat.{ℕ, zero, suc, _+_, _-_, _*_, _/_, _%_, _<_, _≤_}
 use native.Mathlib.Nat.{sub-zero}
+use native.Mathlib.Decide.{ℕ-discrete}
 use native.Mathlib.Omega.{arith}
 use borrow.Author.Tests.{lt-ltb, le-ltb, eqb-true}
 use lib.ListN.{getD, set}
@@ -16,7 +17,7 @@ use Rattle.gmch.proofs.Config.{effective-else}
 use Rattle.rows.specs.Word.{bitsOf}
 use Rattle.rows.specs.declared.Bits.{Bits}
 use Rattle.rows.proofs.Gathered.{writable-bits, clearing-bits}
-use Rattle.config.specs.Word.{newIn, writtenIn, storedIn}
+use Rattle.config.specs.Word.{newIn, writtenIn}
 
 -- ---- what acts, byte by byte
 
@@ -64,23 +65,31 @@ module _ (put : List ℕ → State) (base : ℕ) (b : Bits) (w : ℕ)
 -- ---- a whole write: the bytes of a device, then the flags
 
 module _ (s : State) (x n v : ℕ) (u : x % 4 + n ≤ 4) (b : Bits) (p : b ≡ bitsOf (s .wrote2c) (s .wrote2e) (x / 4)) where
-  module _ (l : List ℕ) (c e : Bool) (q : c ≡ touches 0x12C x n) (r : e ≡ touches 0x12E x n) where
+  module _ (l : List ℕ) (d : ℕ) (c e : Bool) (a : d ≡ effective x (getD (s .dev1) 0xE0 0) v) (q : c ≡ touches 0x12C x n) (r : e ≡ touches 0x12E x n) where
     flagged : (t : State) → t ≡ writeBytes s x n v → withOnce t (t .wrote2c || c) (t .wrote2e || e) ≡ configWrite s x n v
     unfolding configWrite _or_
     flagged t k = rw (k, q, r)
 
-    pub stored-0 : x < 256 → l ≡ storedIn b x n v (s .dev0) → withOnce (withDev0 s l) (s .wrote2c || c) (s .wrote2e || e) ≡ configWrite s x n v
-    unfolding storedIn writeByte
+    -- the first byte is E0h, or all of v acts
+    acts : (m : List ℕ) (i : ℕ) → (x ≡ 0x1E0 → getD m i 0 ≡ getD (s .dev1) 0xE0 0) → d ≡ effective x (getD m i 0) v
+    acts m i h =
+        elim (ℕ-discrete x 0x1E0) [
+          | yes f ↦ rw (h f) a
+          | no f ↦ a ∙ effective-else x (getD (s .dev1) 0xE0 0) v f ∙ sym (effective-else x (getD m i 0) v f)
+        ]
+
+    pub stored-0 : x < 256 → l ≡ writtenIn b x (x % 256) n d (s .dev0) → withOnce (withDev0 s l) (s .wrote2c || c) (s .wrote2e || e) ≡ configWrite s x n v
+    unfolding writeByte
     stored-0 h k =
         let i : x % 256 ≡ x - 0 = omega arith in
         flagged (withDev0 s l)
-        (rw (k, p, i)
+        (rw (k, p, i, acts (s .dev0) (x - 0) (λ f. absurd (omega arith)))
         (written (withDev0 s) 0 _ (x / 4) (λ m y d _ f. simp (sub-zero, new-byte-is (withDev0 s m) y (x / 4) (getD m y 0) d (omega arith) f, lt-ltb y 256 (omega arith), choices)) n x v (s .dev0) (omega arith) (omega arith) (omega arith)))
 
-    pub stored-1 : 256 ≤ x → x < 512 → l ≡ storedIn b x n v (s .dev1) → withOnce (withDev1 s l) (s .wrote2c || c) (s .wrote2e || e) ≡ configWrite s x n v
-    unfolding storedIn writeByte
+    pub stored-1 : 256 ≤ x → x < 512 → l ≡ writtenIn b x (x % 256) n d (s .dev1) → withOnce (withDev1 s l) (s .wrote2c || c) (s .wrote2e || e) ≡ configWrite s x n v
+    unfolding writeByte
     stored-1 o h k =
         let i : x % 256 ≡ x - 256 = omega arith in
         flagged (withDev1 s l)
-        (rw (k, p, i)
+        (rw (k, p, i, acts (s .dev1) (x - 256) (λ f. rw f))
         (written (withDev1 s) 256 _ (x / 4) (λ m y d g f. simp (new-byte-is (withDev1 s m) y (x / 4) (getD m (y - 256) 0) d (omega arith) f, le-ltb y 256 g, choices)) n x v (s .dev1) o (omega arith) (omega arith)))

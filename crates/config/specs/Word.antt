@@ -6,10 +6,10 @@ use lib.Dec.{eqb}
 use Rattle.gmch.specs.Choice.{pick}
 use Rattle.gmch.specs.Smram.{smramWritten}
 use Rattle.gmch.specs.Rows.{byteOf}
-use Rattle.gmch.specs.Config.{merge, effective}
+use Rattle.gmch.specs.Config.{merge}
 use Rattle.rows.specs.declared.Bits.{Bits}
 
--- what a write of v, all of which acts, leaves in the byte x, which was old
+-- what a write of v leaves in the byte x, which was old
 unfoldable pub newIn : Bits → ℕ → ℕ → ℕ → ℕ
 newIn b x old v =
     pick (eqb x 0x70) (smramWritten old v) (merge old v (byteOf (b .writable) (x % 4)) (byteOf (b .clearing) (x % 4)))
@@ -18,7 +18,3 @@ newIn b x old v =
 unfoldable pub writtenIn : Bits → ℕ → ℕ → ℕ → ℕ → List ℕ → List ℕ
 writtenIn b x i zero v l = l
 writtenIn b x i (suc n) v l = writtenIn b (x + 1) (i + 1) n (v / 256) (set l i (newIn b x (getD l i 0) (v % 256)))
-
--- the same with what acts of v. A power state is the lowest part of its word, so in the first byte of a write that touches it
-unfoldable pub storedIn : Bits → ℕ → ℕ → ℕ → List ℕ → List ℕ
-storedIn b x n v l = writtenIn b x (x % 256) n (effective x (getD l (x % 256) 0) v) l

@@ -5,7 +5,7 @@ ghost use mathlib.Core.Path.{_≡_};
 ghost use Prim.Native.Nat.{_+_, _%_, _<_, _≤_};
 ghost use Rattle.gmch.specs.Smram.{smramWritten};
 ghost use Rattle.gmch.specs.Config.{effective, touches, readByte, configRead};
-ghost use Rattle.config.specs.Word.{newIn, storedIn};
+ghost use Rattle.config.specs.Word.{newIn, writtenIn};
 
 // What a write leaves in SMRAM: bit 0 is cleared by writing 1, and the lock holds the others.
 fn smram_written(old: u8, v: u8) -> u8
@@ -36,9 +36,9 @@ fn new_byte(b: Bits, x: u32, old: u8, v: u8) -> u8
     (old & !writable | v & writable) & !(v & clearing)
 }
 
-// What acts of a write of v at x, whose first byte was old: a power state that is not supported is discarded, so that
-// its two bits stay. They are the lowest of their word, so the first of a write that touches them.
-fn effective(x: u32, old: u8, v: u32) -> u32
+// What acts of a write of v at x, where device 1's E0h is old: a power state that is not supported is discarded, so that
+// its two bits stay. They are the lowest of their word, so a write that touches them begins there.
+pub fn effective(x: u32, old: u8, v: u32) -> u32
     ensures { λ r. ⌜ r ≡ effective x old v ⌝ }
 {
     if x == 0x1E0 {
@@ -49,13 +49,13 @@ fn effective(x: u32, old: u8, v: u32) -> u32
     v
 }
 
-// Writes the n low bytes of v at x, in the bytes of x's device. b is what a write may change of the aligned word of x.
+// Writes the n low bytes of v, all of which act, at x, in the bytes of x's device. b is what a write may change of the
+// aligned word of x.
 pub fn write(dev: &mut [u8; 256], b: Bits, x: u32, n: u32, v: u32)
     requires { ⌜ x % 4 + n ≤ 4 ⌝ }
-    ensures { λ _. ⌜ now (dev .exit) ≡ storedIn b x n v (now (dev .entry)) ⌝ }
+    ensures { λ _. ⌜ now (dev .exit) ≡ writtenIn b x (x % 256) n v (now (dev .entry)) ⌝ }
 {
-    let first = dev[(x % 256) as usize];
-    let mut rest = effective(x, first, v);
+    let mut rest = v;
     let mut i: u32 = 0;
     while i < n {
         let at = (x % 256 + i) as usize;

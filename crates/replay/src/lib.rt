@@ -156,13 +156,14 @@ pub fn replay(
                 s.cf8 = v;
             }
             Effect::Configure(n, width, v) => {
+                let data = config::access::effective(n, s.dev1[0xE0], v);
                 let bits = rows::bits_of(n / 4, s.wrote2c, s.wrote2e);
                 let wrote2c = config::access::is_touched(0x12C, n, width);
                 let wrote2e = config::access::is_touched(0x12E, n, width);
                 if n < 256 {
-                    config::access::write(&mut s.dev0, bits, n, width, v);
+                    config::access::write(&mut s.dev0, bits, n, width, data);
                 } else {
-                    config::access::write(&mut s.dev1, bits, n, width, v);
+                    config::access::write(&mut s.dev1, bits, n, width, data);
                 }
                 s.wrote2c = s.wrote2c | wrote2c;
                 s.wrote2e = s.wrote2e | wrote2e;

@@ -104,7 +104,8 @@ fn power(held: u8, v: u32, n: u32) {
     let mut dev1 = [0u8; 256];
     dev1[0xE0] = held;
     if n <= 4 {
-        config::access::write(&mut dev1, rows::bits_of(0x78, false, false), 0x1E0, n, v);
+        let data = config::access::effective(0x1E0, held, v);
+        config::access::write(&mut dev1, rows::bits_of(0x78, false, false), 0x1E0, n, data);
     }
     text(b" bytes: ");
     hex(config::register_value(0, &dev0, &dev1, 0x1E0, 4));

@@ -55,11 +55,11 @@ loop-again c =
     ⊎-elim (λ w.
     let e = w .1 .given .1 in
     let u = rw e at (d .ensures .1) in
-    next _ _ _ (w .11) (w .12)
+    next _ _ _ (w .13) (w .14)
     (⊎-elim
-    (λ v. rw (v .3) (stored-0 _ _ _ _ (u .1) _ (w .3 .ensures) _ _ _ (w .4 .ensures) (w .5 .ensures) (v .0 .taken) (v .2 .ensures)))
-    (λ v. rw (v .3) (stored-1 _ _ _ _ (u .1) _ (w .3 .ensures) _ _ _ (w .4 .ensures) (w .5 .ensures) (v .0 .left) (u .0) (v .2 .ensures)))
-    (w .6 .came) ∙ configure-is _ _ _ _ _ e) (w .10 .ensures)) (λ w.
+    (λ v. rw (v .3) (stored-0 _ _ _ _ (u .1) _ (w .5 .ensures) _ _ _ _ (w .4 .ensures) (w .6 .ensures) (w .7 .ensures) (v .0 .taken) (v .2 .ensures)))
+    (λ v. rw (v .3) (stored-1 _ _ _ _ (u .1) _ (w .5 .ensures) _ _ _ _ (w .4 .ensures) (w .6 .ensures) (w .7 .ensures) (v .0 .left) (u .0) (v .2 .ensures)))
+    (w .8 .came) ∙ configure-is _ _ _ _ _ e) (w .12 .ensures)) (λ w.
     next _ _ _ (w .8) (w .9) (w .3 .ensures ∙ rare-is _ _ _ (w .1 .given .1)) (w .7 .ensures)) k) k) k) (m .came) in
     let t = c .before .before .before .before .before .before .before .before .before .before .before .before .before .before .before .before .before .before .before .before .loop-test in (
       omega arith,
@@ -92,11 +92,13 @@ replay-spec =
     (λ c. search needs)
     (λ c. search needs)
     (λ c. search needs)
+    (λ c. search needs)
     (λ c κs. search needs)
-    (λ c κs. let u = (rw (c .before .before .e3 .given .1) at (c .before .before .before .before .before .before .before .before .decide .ensures .1)) in omega arith)
-    (λ c κs. let u = (rw (c .before .before .before .e3 .given .1) at (c .before .before .before .before .before .before .before .before .before .decide .ensures .1)) in omega arith)
-    (λ c κs. let u = (rw (c .before .before .before .before .before .before .e3 .given .1) at (c .before .before .before .before .before .before .before .before .before .before .before .before .decide .ensures .1)) in omega arith)
-    (λ c κs. let u = (rw (c .before .before .before .before .before .before .e3 .given .1) at (c .before .before .before .before .before .before .before .before .before .before .before .before .decide .ensures .1)) in omega arith)
+    (λ c κs. search needs)
+    (λ c κs. let u = (rw (c .before .before .before .before .e3 .given .1) at (c .before .before .before .before .before .before .before .before .before .before .decide .ensures .1)) in omega arith)
+    (λ c κs. let u = (rw (c .before .before .before .before .before .e3 .given .1) at (c .before .before .before .before .before .before .before .before .before .before .before .decide .ensures .1)) in omega arith)
+    (λ c κs. let u = (rw (c .before .before .before .before .before .before .before .before .e3 .given .1) at (c .before .before .before .before .before .before .before .before .before .before .before .before .before .before .decide .ensures .1)) in omega arith)
+    (λ c κs. let u = (rw (c .before .before .before .before .before .before .before .before .e3 .given .1) at (c .before .before .before .before .before .before .before .before .before .before .before .before .before .before .decide .ensures .1)) in omega arith)
     (λ c κs. search needs)
     (λ c. search needs)
     (λ c κs. search needs)
