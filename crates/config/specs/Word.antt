@@ -1,4 +1,4 @@
--- A write by the bits of an aligned word of four bytes, as code makes it.
+-- A write of data, all of which acts, by the bits of an aligned word of four bytes, as code makes it.
 use Prim.Native.Nat.{ℕ, zero, suc, _+_, _/_, _%_}
 use mathlib.Core.List.{List}
 use lib.ListN.{getD, set}

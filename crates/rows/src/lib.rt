@@ -195,7 +195,7 @@ const ROWS: [Row; 24] = [
         writable: 0,
         clearing: 0,
     },
-    // PM_CS
+    // PM_CS: what a write leaves in bits 1:0, the power state, has a rule of its own, config::access::effective
     Row {
         at: 0x1E0,
         width: 2,
