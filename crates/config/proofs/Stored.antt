@@ -13,7 +13,7 @@ use Rattle.gmch.specs.Choice.{_or_}
 use Rattle.gmch.specs.Config.{withDev0, withDev1, withOnce, unsupported, effective, newByte, writeByte, writeBytes, touches, configWrite}
 use Rattle.gmch.specs.declared.State.{State}
 use Rattle.gmch.proofs.Choice.{choices, pick-elim, pick-elim₂}
-use Rattle.gmch.proofs.Config.{effective-else}
+use Rattle.gmch.proofs.Power.{effective-else}
 use Rattle.rows.specs.Word.{bitsOf}
 use Rattle.rows.specs.declared.Bits.{Bits}
 use Rattle.rows.proofs.Gathered.{writable-bits, clearing-bits}

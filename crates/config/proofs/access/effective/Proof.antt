@@ -1,5 +1,5 @@
 use borrow.Author.Needs.{needs}
-use Rattle.gmch.proofs.Choice.{tests, choices}
+use Rattle.gmch.proofs.Choice.{tests}
 use Rattle.gmch.specs.Choice.{_or_}
 use Rattle.gmch.specs.Config.{unsupported, effective}
 use Rattle.config.proofs.access.effective.Statement.{statement}
