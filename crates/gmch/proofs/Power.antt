@@ -1,14 +1,16 @@
 -- The power state, bits 1:0 of device 1's E0h (request 3 of document 02): what a write leaves of it, and that from a cold start
 -- it is 00 or 11 throughout.
-use mathlib.Core.Path.{_≡_, refl, _∙_}
+use mathlib.Core.Path.{_≡_, refl, ap, _∙_}
 use mathlib.Core.Logic.{_≢_, inl}
 use mathlib.Core.List.{List, [], _∷_}
 use mathlib.Core.Bool.{false}
-use Prim.Native.Nat.{ℕ, suc, _+_, _-_, _*_, _/_, _%_, _≤_, _<_}
+use Prim.Native.Nat.{ℕ, suc, _+_, _-_, _*_, _/_, _%_, _^_, _≤_, _<_}
+use native.Mathlib.Nat.{mod-lt}
 use native.Mathlib.Omega.{arith}
 use borrow.Author.Tests.{ne-eqb, le-ltb}
 use lib.Bits.{and-zero-r, and-mask, and-high, or-shifted}
 use lib.Dec.{eqb}
+use lib.Pow.{pow-pos, low, mod-mod-pow}
 use lib.ListN.{length}
 use lib.Seq.{getD-set-same}
 use Rattle.gmch.specs.Choice.{pick, _and_, _or_}
@@ -45,15 +47,22 @@ unfolding writeBytes writeByte
 first-byte s x n v h l =
     bytes-other x n (writeByte s x (v % 256)) (x + 1) (v / 256) (inl (omega arith)) ∙ byte-same s x (newByte s x (byteAt s x) (v % 256)) h l
 
+-- the k lowest bits of a byte, where a write stores these alone
+low-bits : (j k : ℕ) → j + k ≡ 8 → (old v : ℕ) → merge old v (2 ^ k - 1) 0 % 2 ^ k ≡ v % 2 ^ k
+unfolding merge
+low-bits j k e old v =
+    let n = old / 2 ^ k % 2 ^ j in
+    let m = n * 2 ^ k + v % 2 ^ k in
+    let p = pow-pos k in
+    let b : 256 ≡ 2 ^ (j + k) = rw e refl in
+    let h : 255 - (2 ^ k - 1) ≡ 2 ^ (j + k) - 2 ^ k = rw (← b) (omega arith) in
+    rw (and-zero-r v, h, and-high old j k, and-mask v k, or-shifted n k (v % 2 ^ k) (mod-lt v p), and-mask m 8)
+    (ap (λ (z : ℕ). m % z % 2 ^ k) b ∙ mod-mod-pow m j k ∙ low n k (mod-lt v p))
+
 -- the writable bits of its byte are the two of the state
 state-byte : (s : State) (old v : ℕ) → newByte s 0x1E0 old v ≡ merge old (effective 0x1E0 old v) 3 0
 unfolding newByte writableAt fixedAt masksOf rowIn rows within _and_ _or_ pick
 state-byte s old v = refl
-
-state-merged : (old v : ℕ) → merge old v 3 0 % 4 ≡ v % 4
-unfolding merge
-state-merged old v =
-    rw (and-zero-r v, and-mask v 2, and-high old 6 2, or-shifted (old / 4 % 64) 2 (v % 4) (omega arith), and-mask (old / 4 % 64 * 4 + v % 4) 8) (omega arith)
 
 effective-state : (old v : ℕ) → effective 0x1E0 old v % 4 ≡ pick (eqb (v % 4) 1 or eqb (v % 4) 2) (old % 4) (v % 4)
 unfolding effective unsupported
@@ -65,7 +74,7 @@ pub power-state : (s : State) (n v : ℕ) → 0xE0 < length (s .dev1)
 unfolding configWrite
 power-state s n v l =
     let e : v % 256 % 4 ≡ v % 4 = omega arith in
-    rw (first-byte s 0x1E0 n v (omega arith) l, state-byte s (byteAt s 0x1E0) (v % 256), state-merged (byteAt s 0x1E0) (effective 0x1E0 (byteAt s 0x1E0) (v % 256)), ← e)
+    rw (first-byte s 0x1E0 n v (omega arith) l, state-byte s (byteAt s 0x1E0) (v % 256), low-bits 6 2 refl (byteAt s 0x1E0) (effective 0x1E0 (byteAt s 0x1E0) (v % 256)), ← e)
     (effective-state (byteAt s 0x1E0) (v % 256))
 
 -- the byte above it has one writable bit, bit 8
@@ -73,18 +82,13 @@ enable-byte : (s : State) (old v : ℕ) → newByte s 0x1E1 old v ≡ merge old 
 unfolding newByte effective unsupported writableAt fixedAt masksOf rowIn rows within _and_ _or_ pick
 enable-byte s old v = refl
 
-enable-merged : (old v : ℕ) → merge old v 1 0 % 2 ≡ v % 2
-unfolding merge
-enable-merged old v =
-    rw (and-zero-r v, and-mask v 1, and-high old 7 1, or-shifted (old / 2 % 128) 1 (v % 2) (omega arith), and-mask (old / 2 % 128 * 2 + v % 2) 8) (omega arith)
-
 -- which acts in every write of two bytes or more, whatever the state
 pub power-enable : (s : State) (n v : ℕ) → 0xE1 < length (s .dev1) → byteAt (configWrite s 0x1E0 (suc (suc n)) v) 0x1E1 % 2 ≡ v / 256 % 2
 unfolding configWrite writeBytes
 power-enable s n v l =
     let t = writeByte s 0x1E0 (v % 256) in
     let b = byte-beside s s 0x1E0 (v % 256) (record { cf8 = refl; length0 = refl; length1 = refl; fences = refl; regs = refl }) in
-    rw (first-byte t 0x1E1 n (v / 256) (omega arith) (rw (b .length1) l), enable-byte t (byteAt t 0x1E1) (v / 256 % 256), enable-merged (byteAt t 0x1E1) (v / 256 % 256))
+    rw (first-byte t 0x1E1 n (v / 256) (omega arith) (rw (b .length1) l), enable-byte t (byteAt t 0x1E1) (v / 256 % 256), low-bits 7 1 refl (byteAt t 0x1E1) (v / 256 % 256))
     (omega arith)
 
 -- ---- 00 and 11 only
@@ -111,7 +115,7 @@ unfolding writeByte
 byte-supported s x v h =
     let old = byteAt s 0x1E0 in
     byte-after (λ (z : ℕ). unsupported 0x1E0 z ≡ false) s x (newByte s x (byteAt s x) v) 0x1E0 h
-    (λ e. rw (e, state-byte s old v) (same-state (merge old (effective 0x1E0 old v) 3 0) (effective 0x1E0 old v) (state-merged old (effective 0x1E0 old v)) ∙ effective-supported old v h))
+    (λ e. rw (e, state-byte s old v) (same-state (merge old (effective 0x1E0 old v) 3 0) (effective 0x1E0 old v) (low-bits 6 2 refl old (effective 0x1E0 old v)) ∙ effective-supported old v h))
 
 register-supported : (s : State) (x n v : ℕ) → Supported s → Supported (registerWritten s x n v)
 unfolding registerWritten configWrite
