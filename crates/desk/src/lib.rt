@@ -10,7 +10,7 @@ pub fn good_call(kind: u32, tom: usize, records: usize, answers: usize) -> bool
     ensures { λ r. ⌜ r ≡ goodCall (record { kind = kind; tom = tom }) records answers ⌝ }
 {
     (kind <= 3)
-        & ((0x800000 <= tom) & (tom <= 0x20000000) & (tom % 0x800000 == 0))
+        & ((0x800000 <= tom) & (tom <= 0x40000000) & (tom % 0x800000 == 0))
         & ((records % 16 == 0) & (records / 16 <= 65535))
         & (answers == records)
 }

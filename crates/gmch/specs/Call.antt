@@ -13,7 +13,7 @@ use Rattle.gmch.specs.declared.Board.{Board}
 unfoldable pub goodCall : Board → ℕ → ℕ → Bool
 goodCall b records answers =
     leb (b .kind) 3
-    and (leb 0x800000 (b .tom) and leb (b .tom) 0x20000000 and eqb (b .tom % 0x800000) 0)
+    and (leb 0x800000 (b .tom) and leb (b .tom) 0x40000000 and eqb (b .tom % 0x800000) 0)
     and (eqb (records % 16) 0 and leb (records / 16) 65535)
     and eqb answers records
 
