@@ -15,11 +15,11 @@ use std::fmt;
 ///
 /// let wrong = replay(Board::I82810, &mut [0; 4096], &[], &mut []).unwrap_err();
 /// assert_eq!(wrong, WrongArgument::Memory { bytes: 4096 });
-/// assert_eq!(wrong.to_string(), "memory: expected a multiple of 8 MiB from 8 to 512 MiB, found 4096 bytes");
+/// assert_eq!(wrong.to_string(), "memory: expected a multiple of 8 MiB from 8 to 1,024 MiB, found 4096 bytes");
 /// ```
 #[derive(Clone, Copy, Debug, PartialEq, Eq)]
 pub enum WrongArgument {
-    /// The memory's length is no multiple of 8 MiB from 8 to 512 MiB.
+    /// The memory's length is no multiple of 8 MiB from 8 to 1,024 MiB.
     Memory {
         /// Its length.
         bytes: usize,
@@ -55,7 +55,7 @@ impl fmt::Display for WrongArgument {
     fn fmt(&self, f: &mut fmt::Formatter<'_>) -> fmt::Result {
         match *self {
             WrongArgument::Memory { bytes } => {
-                write!(f, "memory: expected a multiple of 8 MiB from 8 to 512 MiB, found {bytes} bytes")
+                write!(f, "memory: expected a multiple of 8 MiB from 8 to 1,024 MiB, found {bytes} bytes")
             }
             WrongArgument::Records { bytes } => {
                 write!(f, "records: expected 16 bytes each, at most {MAX_RECORDS} of them, found {bytes} bytes")
@@ -69,16 +69,26 @@ impl fmt::Display for WrongArgument {
 
 impl std::error::Error for WrongArgument {}
 
-/// Whether a board can have a memory of this length: a multiple of 8 MiB, 8 to 512 MiB.
+/// The length of the largest memory: 1,024 MiB, which request 6 of document 02 raised from 512 MiB.
 ///
 /// ```
-/// use mitrophel::is_memory_length;
+/// use mitrophel::MOST_MEMORY;
 ///
-/// assert!(is_memory_length(8 << 20) && is_memory_length(512 << 20));
-/// assert!(!is_memory_length(0) && !is_memory_length(12 << 20) && !is_memory_length(520 << 20));
+/// assert_eq!(MOST_MEMORY, 1 << 30);
+/// ```
+pub const MOST_MEMORY: usize = 1024 << 20;
+
+/// Whether a board can have a memory of this length: a multiple of 8 MiB, 8 to 1,024 MiB.
+///
+/// ```
+/// use mitrophel::{is_memory_length, MOST_MEMORY};
+///
+/// assert!(is_memory_length(8 << 20) && is_memory_length(520 << 20) && is_memory_length(MOST_MEMORY));
+/// assert!(!is_memory_length(0) && !is_memory_length(12 << 20));
+/// assert!(!is_memory_length(MOST_MEMORY + 1) && !is_memory_length(MOST_MEMORY + (8 << 20)));
 /// ```
 pub const fn is_memory_length(bytes: usize) -> bool {
-    bytes.is_multiple_of(8 << 20) && 8 << 20 <= bytes && bytes <= 512 << 20
+    bytes.is_multiple_of(8 << 20) && 8 << 20 <= bytes && bytes <= MOST_MEMORY
 }
 
 /// Replays records from a cold start on a board with `memory` as its main memory, and writes one answer

@@ -50,7 +50,7 @@
 //! ```
 //!
 //! A list has at most [`MAX_RECORDS`](record::MAX_RECORDS) records, and a memory is a multiple of 8 MiB
-//! from 8 to 512 MiB ([`is_memory_length`]). Within these bounds every byte string is a legal list: the
+//! from 8 to 1,024 MiB ([`is_memory_length`]). Within these bounds every byte string is a legal list: the
 //! call returns, answers each record, and reads and writes nothing outside what it was lent.
 //!
 //! # Where to go next
@@ -73,7 +73,7 @@ pub mod reference;
 pub mod trace;
 
 pub use board::Board;
-pub use call::{is_memory_length, replay, replay_records, WrongArgument};
+pub use call::{is_memory_length, replay, replay_records, WrongArgument, MOST_MEMORY};
 pub use record::{Answer, Kind, Record, Refusal, Target};
 
 // README's Rust, as a doc test.

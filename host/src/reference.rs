@@ -22,6 +22,7 @@ pub use ring::Ring;
 pub use window::Fence;
 
 use crate::board::Board;
+use crate::call::is_memory_length;
 use crate::faults::{Fault, Faultless, Faults};
 use crate::record::{Answer, Kind, Record, Refusal, Target, MAX_RECORDS, RECORD_BYTES};
 use configuration::default_bytes;
@@ -222,15 +223,13 @@ impl<'m, O: Observer, F: Faults> Gmch<'m, O, F> {
     /// The GMCH at cold start, with faults; none where the board kind or the memory's length is wrong. The
     /// table must be all zero, as it is at cold start.
     ///
-    /// "its length is TOM: a multiple of 8 MiB, 8 to 512 MiB. Board kind 0 is 82810, 1 is DC100." Request 10 of document
-    /// 02: "Add board kinds 2 (82810) and 3 (DC100)".
+    /// "its length is TOM: a multiple of 8 MiB, 8 to 512 MiB", which request 6 of document 02 amends: "Raise the largest
+    /// TOM from 512 MiB to 1,024 MiB. ... Lengths just above are still code 1." "Board kind 0 is 82810, 1 is DC100."
+    /// Request 10 of document 02: "Add board kinds 2 (82810) and 3 (DC100)".
     #[cfg_attr(not(feature = "faults"), doc(hidden))]
     pub fn with_faults(board: u32, memory: &'m mut [u8], table: &'m mut Table, observer: O, faults: F) -> Option<Self> {
         let board = Board::from_number(board)?;
-        let tom = u32::try_from(memory.len()).ok()?;
-        if !tom.is_multiple_of(8 * MIB) || !(8 * MIB..=512 * MIB).contains(&tom) {
-            return None;
-        }
+        let tom = u32::try_from(memory.len()).ok().filter(|_| is_memory_length(memory.len()))?;
         let mut hub = Gmch {
             memory,
             table,
