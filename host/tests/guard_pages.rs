@@ -6,98 +6,10 @@
 mod common;
 
 use common::compare::{undo, Lists};
-use common::generate::MOST_MEMORY;
-use common::{lists, seed, Script};
-use mitrophel::{call, record, reference, Board, Record};
-use std::ffi::{c_int, c_long, c_void};
-
-const PAGE: usize = 4096;
-const PROT_NONE: c_int = 0;
-const PROT_READ: c_int = 1;
-const PROT_WRITE: c_int = 2;
-const MAP_PRIVATE_ANONYMOUS: c_int = 0x22;
-
-extern "C" {
-    fn mmap(
-        address: *mut c_void,
-        length: usize,
-        protection: c_int,
-        flags: c_int,
-        file: c_int,
-        at: c_long,
-    ) -> *mut c_void;
-    fn mprotect(address: *mut c_void, length: usize, protection: c_int) -> c_int;
-    fn munmap(address: *mut c_void, length: usize) -> c_int;
-}
-
-/// On which side of a buffer the page lies that cannot be touched.
-#[derive(Clone, Copy, Debug, PartialEq, Eq)]
-enum Side {
-    Before,
-    After,
-}
-
-/// What fills the part of a mapping that is not lent.
-const FILL: u8 = 0x6B;
-
-/// Whole pages between two pages that cannot be touched.
-struct Guarded {
-    base: *mut u8,
-    room: usize,
-}
-
-impl Guarded {
-    fn new(bytes: usize) -> Guarded {
-        let room = bytes.next_multiple_of(PAGE);
-        // SAFETY: a new private mapping at an address that the kernel chooses.
-        let base = unsafe { mmap(std::ptr::null_mut(), room + 2 * PAGE, PROT_NONE, MAP_PRIVATE_ANONYMOUS, -1, 0) };
-        assert_ne!(base as isize, -1, "mmap");
-        let mut guarded = Guarded { base: base.cast::<u8>().wrapping_add(PAGE), room };
-        guarded.protect(PROT_READ | PROT_WRITE);
-        guarded.whole().fill(FILL);
-        guarded
-    }
-
-    fn protect(&mut self, protection: c_int) {
-        // SAFETY: these are the pages of our own mapping, and no slice of them is alive.
-        let result = unsafe { mprotect(self.base.cast(), self.room, protection) };
-        assert_eq!(result, 0, "mprotect");
-    }
-
-    fn whole(&mut self) -> &mut [u8] {
-        // SAFETY: `room` readable and writable bytes, borrowed for as long as `self` is.
-        unsafe { std::slice::from_raw_parts_mut(self.base, self.room) }
-    }
-
-    /// Where a buffer of this length lies.
-    fn place(&self, length: usize, side: Side) -> std::ops::Range<usize> {
-        match side {
-            Side::Before => 0..length,
-            Side::After => self.room - length..self.room,
-        }
-    }
-
-    /// A buffer of this length.
-    fn part(&mut self, length: usize, side: Side) -> &mut [u8] {
-        let place = self.place(length, side);
-        &mut self.whole()[place]
-    }
-
-    /// Whether the bytes beside the buffer are still [`FILL`]; then the buffer is filled too.
-    fn is_clean_beside(&mut self, length: usize, side: Side) -> bool {
-        let place = self.place(length, side);
-        let whole = self.whole();
-        whole[place].fill(FILL);
-        whole.iter().all(|&byte| byte == FILL)
-    }
-}
-
-impl Drop for Guarded {
-    fn drop(&mut self) {
-        // SAFETY: the mapping made in `new`, which nobody uses any more.
-        unsafe { munmap(self.base.wrapping_sub(PAGE).cast(), self.room + 2 * PAGE) };
-    }
-}
+use common::generate::LIST_MEMORY;
+use common::guarded::{ends_of_tables, Guarded, Side, FILL, PAGE};
+use common::{lists, seed};
+use mitrophel::{call, record, reference, Board};
 
 /// The most bytes of a random list, with room to spare.
 const MOST_BYTES: usize = 256 << 10;
@@ -113,7 +25,7 @@ fn the_call_stays_inside_each_buffer() {
         let length = memory.room;
         memory.whole().copy_from_slice(&lists_of.pristine[..length]);
     }
-    assert_eq!(memories.last().map(|memory| memory.room), Some(MOST_MEMORY));
+    assert_eq!(memories.last().map(|memory| memory.room), Some(LIST_MEMORY));
     let mut records = Guarded::new(MOST_BYTES);
     let mut answers = Guarded::new(MOST_BYTES);
     for number in 0..lists(2_000).min(2_000) {
@@ -123,13 +35,10 @@ fn the_call_stays_inside_each_buffer() {
         let memory = memories.iter_mut().find(|memory| memory.room == list.tom).expect("a mapping of this size");
 
         records.part(length, side(0)).copy_from_slice(&list.records);
-        records.protect(PROT_READ);
-        let place = records.place(length, side(0));
-        // SAFETY: `place` lies inside the mapping, whose pages can be read.
-        let lent = unsafe { std::slice::from_raw_parts(records.base.wrapping_add(place.start), length) };
-        let result = call::gmch_replay(list.board, memory.whole(), lent, answers.part(length, side(1)));
+        let result = records.read_only(length, side(0), |lent| {
+            call::gmch_replay(list.board, memory.whole(), lent, answers.part(length, side(1)))
+        });
         assert_eq!(result, 0);
-        records.protect(PROT_READ | PROT_WRITE);
 
         let checked = lists_of.check(&list, answers.part(length, side(1)), memory.whole());
         assert_eq!(checked, Ok(()));
@@ -147,21 +56,7 @@ fn a_table_in_memory_stays_inside_memory() {
     const TOP: u32 = 8 << 20;
     let mut memory = Guarded::new(TOP as usize);
     for base in [TOP - 0x1_0000, TOP - 0xF000, TOP - 0x1000, TOP, 0xFFFF_0000, 0xFFFF_F000, 0] {
-        let mut script = Script::new();
-        script.graphics();
-        script.register_write(0x2020, base | 1);
-        // The first and the last word of each page of the table, for the last page of memory and for the first.
-        let words = (0..16).flat_map(|page| [1024 * page, 1024 * page + 1023]);
-        for (number, entry) in words.flat_map(|number| [(number, TOP - 0x1000 + 1), (number, 1)]) {
-            script.entry(number, entry);
-            script.register_read(0x1_0000 + 4 * number);
-            for offset in [0, 0xFFC] {
-                script.window_read(number << 12 | offset, 4);
-                script.push(Record::write(Script::WINDOW + (number << 12 | offset), 4, entry, false));
-            }
-            script.ring(number << 12, 1, 0xFFC, 8);
-            script.run(u32::MAX);
-        }
+        let script = ends_of_tables(base, TOP);
         let records = record::encode(&script.records);
         for board in Board::ALL.map(Board::number) {
             let (mut expected, mut expected_memory) = (vec![0; records.len()], vec![0; TOP as usize]);

@@ -14,13 +14,13 @@ const KIB: u32 = 1 << 10;
 const MIB: u32 = 1 << 20;
 const PAGE: u32 = 4096;
 
-/// The largest memory that a list is given.
-pub const MOST_MEMORY: usize = 24 << 20;
+/// The largest memory that a list gets where it chooses one itself.
+pub const LIST_MEMORY: usize = 24 << 20;
 
 /// What memory holds before each list. A page holds no-ops, known instructions or noise, by its
 /// number, so that parser runs are long, eventful or short.
 pub fn pristine_memory() -> Vec<u8> {
-    let mut memory = vec![0; MOST_MEMORY];
+    let mut memory = vec![0; LIST_MEMORY];
     let mut random = Random::new(0x0082_8100);
     for page in memory.chunks_exact_mut(PAGE as usize) {
         let class = random.below(4);

@@ -4,6 +4,8 @@
 
 pub mod compare;
 pub mod generate;
+#[cfg(all(target_os = "linux", target_arch = "x86_64"))]
+pub mod guarded;
 pub mod isolation;
 pub mod places;
 pub mod power;
