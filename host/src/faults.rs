@@ -314,6 +314,50 @@ faults! {
     /// Rules 7 and 8 do not act in power state 11.
     D3StopsDecoding,
 
+    // One gibibyte: request 6 of document 02.
+    /// The largest memory is 512 MiB.
+    LargestMemory512Mib,
+    /// The largest memory is 512 MiB on board kinds 0 and 1.
+    OldBoardsHave512Mib,
+    /// The largest memory is 1,016 MiB.
+    LargestMemory1016Mib,
+    /// A memory of 1,032 MiB is accepted.
+    LargestMemory1032Mib,
+    /// Of the memories above 512 MiB only 1,024 MiB is accepted.
+    NothingBetween,
+    /// A memory's length is rounded down to a multiple of 8 MiB.
+    LengthRoundedDown,
+    /// An entry keeps page bits 28:12.
+    EntryBit29NotStored,
+    /// A lookup uses page bits 28:12.
+    EntryBit29NotUsed,
+    /// An entry's page from 512 MiB up is refused with code 7.
+    HighPageRefused,
+    /// An entry's page is compared with TOM's bits 29:12, which are zero at 1,024 MiB.
+    TopOf30Bits,
+    /// Protection is asked of bits 28:12 of an entry's page.
+    ProtectionOf29Bits,
+    /// The parser's fetch from 512 MiB up is refused with code 7.
+    HighFetchRefused,
+    /// A table word from 512 MiB up is refused with code 7.
+    HighWordRefused,
+    /// Protection is asked of bits 28:0 of a table word's address.
+    WordProtectionOf29Bits,
+    /// The table's base is 2020h bits 29:12.
+    TableBaseOf30Bits,
+    /// U is counted from 512 MiB where memory is larger.
+    UsableTopBelow512Mib,
+    /// The TSEG ends at 512 MiB where memory is larger.
+    TsegBelow512Mib,
+    /// Hub masters reach memory below 512 MiB alone.
+    MastersBelow512Mib,
+    /// The registers are found before memory from 512 MiB up.
+    RegistersOverMemory,
+    /// The window is found before memory from 512 MiB up.
+    WindowOverMemory,
+    /// The registers and the window are found before rule 5.
+    GraphicsOverTop,
+
     // Fences.
     /// The highest matching fence wins.
     HighestFenceWins,

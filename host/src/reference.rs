@@ -22,7 +22,7 @@ pub use ring::Ring;
 pub use window::Fence;
 
 use crate::board::Board;
-use crate::call::is_memory_length;
+use crate::call::{is_memory_length, MOST_MEMORY};
 use crate::faults::{Fault, Faultless, Faults};
 use crate::record::{Answer, Kind, Record, Refusal, Target, MAX_RECORDS, RECORD_BYTES};
 use configuration::default_bytes;
@@ -110,6 +110,23 @@ pub fn replay_with<O: Observer, F: Faults>(
         *answer = hub.answer(&Record::from_bytes(record)).to_bytes();
     }
     0
+}
+
+/// TOM of a memory of this length; none where the length is wrong. "its length is TOM: a multiple of 8 MiB, 8 to 512 MiB",
+/// which request 6 of document 02 amends: "Raise the largest TOM from 512 MiB to 1,024 MiB. ... Lengths just above are
+/// still code 1."
+fn top_of_memory(board: Board, bytes: usize, faults: &impl Faults) -> Option<u32> {
+    let bytes = if faults.has(Fault::LengthRoundedDown) { bytes - bytes % (8 << 20) } else { bytes };
+    let most = match board {
+        _ if faults.has(Fault::LargestMemory512Mib) => 512 << 20,
+        Board::I82810 | Board::Dc100 if faults.has(Fault::OldBoardsHave512Mib) => 512 << 20,
+        _ if faults.has(Fault::LargestMemory1016Mib) => 1016 << 20,
+        _ => MOST_MEMORY,
+    };
+    let between = 512 << 20 < bytes && bytes < MOST_MEMORY;
+    let good = is_memory_length(bytes) && bytes <= most && !(between && faults.has(Fault::NothingBetween))
+        || bytes == 1032 << 20 && faults.has(Fault::LargestMemory1032Mib);
+    u32::try_from(bytes).ok().filter(|_| good)
 }
 
 /// A read or write of 1, 2 or 4 bytes inside one aligned word.
@@ -223,13 +240,11 @@ impl<'m, O: Observer, F: Faults> Gmch<'m, O, F> {
     /// The GMCH at cold start, with faults; none where the board kind or the memory's length is wrong. The
     /// table must be all zero, as it is at cold start.
     ///
-    /// "its length is TOM: a multiple of 8 MiB, 8 to 512 MiB", which request 6 of document 02 amends: "Raise the largest
-    /// TOM from 512 MiB to 1,024 MiB. ... Lengths just above are still code 1." "Board kind 0 is 82810, 1 is DC100."
-    /// Request 10 of document 02: "Add board kinds 2 (82810) and 3 (DC100)".
+    /// "Board kind 0 is 82810, 1 is DC100." Request 10 of document 02: "Add board kinds 2 (82810) and 3 (DC100)".
     #[cfg_attr(not(feature = "faults"), doc(hidden))]
     pub fn with_faults(board: u32, memory: &'m mut [u8], table: &'m mut Table, observer: O, faults: F) -> Option<Self> {
         let board = Board::from_number(board)?;
-        let tom = u32::try_from(memory.len()).ok().filter(|_| is_memory_length(memory.len()))?;
+        let tom = top_of_memory(board, memory.len(), &faults)?;
         let mut hub = Gmch {
             memory,
             table,
@@ -385,6 +400,16 @@ impl<'m, O: Observer, F: Faults> Gmch<'m, O, F> {
     #[inline(always)]
     fn wrong(&self, fault: Fault) -> bool {
         self.faults.has(fault)
+    }
+
+    /// TOM, or 512 MiB at most in a replay with this fault.
+    #[inline(always)]
+    fn top_unless(&self, fault: Fault) -> u32 {
+        if self.wrong(fault) {
+            self.tom.min(512 * MIB)
+        } else {
+            self.tom
+        }
     }
 
     /// CF8h.

@@ -4,13 +4,21 @@ mod common;
 
 use common::compare::{undo, List, Lists};
 use common::isolation::two_runs;
-use common::{seed, Watch};
+use common::{seed, Watch, MIB};
 use mitrophel::faults::{Fault, OneFault};
-use mitrophel::reference::{replay_with, Unobserved};
+use mitrophel::reference::{replay, replay_with, Unobserved};
+use mitrophel::{Board, MOST_MEMORY};
 
 /// How many lists the comparison may take to notice a fault. The random comparison itself replays
 /// fifty times as many.
 const LISTS: u64 = 400;
+
+/// How many more on the largest memory, for the faults that smaller ones do not show.
+const LARGE_LISTS: u64 = 100;
+
+/// Lengths of memory for the faults that no list shows: request 6 of document 02, "Lengths just above are still code 1."
+const LENGTHS: [usize; 6] =
+    [512 * MIB, 520 * MIB, MOST_MEMORY - 8 * MIB, MOST_MEMORY, MOST_MEMORY + 1, MOST_MEMORY + 8 * MIB];
 
 /// Whether a replay with this fault differs from what is expected on this list.
 fn caught(lists: &Lists, list: &List, memory: &mut [u8], fault: Fault) -> bool {
@@ -18,37 +26,72 @@ fn caught(lists: &Lists, list: &List, memory: &mut [u8], fault: Fault) -> bool {
     let mut answers = vec![0; list.records.len()];
     let memory_lent = &mut memory[..list.tom];
     let result = replay_with(list.board, memory_lent, &list.records, &mut answers, &mut watch, OneFault::new(fault));
-    assert_eq!(result, 0);
-    let caught = lists.check(list, &answers, memory).is_err();
+    let caught = result != 0 || lists.check(list, &answers, memory).is_err();
     undo(memory, &lists.pristine, &watch.writes);
     caught
 }
 
-/// Each of the wrong references differs from document 01, or from request 3, 5 or 10 of document 02, in one sentence,
+/// Whether a replay with this fault has another result than the reference on a memory of this length.
+fn caught_by_length(memory: &mut [u8], fault: Fault) -> bool {
+    Board::ALL.map(Board::number).into_iter().any(|board| {
+        let result = replay_with(board, memory, &[], &mut [], Unobserved, OneFault::new(fault));
+        result != replay(board, memory, &[], &mut [])
+    })
+}
+
+/// A fault, the first thing that noticed it, and how many did.
+struct Noticed {
+    fault: Fault,
+    first: Option<String>,
+    times: u64,
+}
+
+impl Noticed {
+    fn note(&mut self, caught: bool, by: impl FnOnce() -> String) {
+        if caught {
+            self.first.get_or_insert_with(by);
+            self.times += 1;
+        }
+    }
+}
+
+/// Each of the wrong references differs from document 01, or from request 3, 5, 6 or 10 of document 02, in one sentence,
 /// which its comment in `faults` states.
 #[test]
 fn every_wrong_reference_is_caught_by_the_random_comparison() {
-    let mut lists = Lists::new(seed());
-    let mut memory = lists.pristine.clone();
-    let mut first = vec![None; Fault::ALL.len()];
-    let mut times = vec![0; Fault::ALL.len()];
-    for number in 0..LISTS {
+    let seed = seed();
+    let mut faults: Vec<_> = Fault::ALL.iter().map(|&fault| Noticed { fault, first: None, times: 0 }).collect();
+    let on_list = |lists: &mut Lists, memory: &mut [u8], number: u64, faults: &mut [Noticed], name: &str| {
         let list = lists.make(number);
-        for (i, &fault) in Fault::ALL.iter().enumerate() {
-            if caught(&lists, &list, &mut memory, fault) {
-                first[i].get_or_insert(number);
-                times[i] += 1;
-            }
+        for noticed in faults {
+            noticed.note(caught(lists, &list, memory, noticed.fault), || format!("{name} {number}"));
         }
         lists.restore(&list);
+    };
+    let mut lists = Lists::new(seed);
+    let mut memory = lists.pristine.clone();
+    for number in 0..LISTS {
+        on_list(&mut lists, &mut memory, number, &mut faults, "list");
     }
-    println!("{:>6} {:>6}  of {LISTS} lists", "first", "times");
-    for (i, fault) in Fault::ALL.iter().enumerate() {
-        let number = first[i].map_or("never".to_string(), |number| number.to_string());
-        println!("{number:>6} {:>6}  {fault:?}", times[i]);
+    // What is left needs more memory. Pages that nobody touches cost nothing.
+    faults.sort_by_key(|noticed| noticed.first.is_none());
+    let left = faults.partition_point(|noticed| noticed.first.is_some());
+    let mut lists = Lists::on_zeros(seed, MOST_MEMORY);
+    let mut memory = vec![0; MOST_MEMORY + 8 * MIB];
+    for number in 0..LARGE_LISTS {
+        on_list(&mut lists, &mut memory, number, &mut faults[left..], "large list");
     }
-    let missed: Vec<_> = Fault::ALL.iter().zip(&first).filter(|(_, first)| first.is_none()).collect();
-    assert!(missed.is_empty(), "not caught in {LISTS} lists: {missed:?}");
+    for length in LENGTHS {
+        for noticed in &mut faults[left..] {
+            noticed.note(caught_by_length(&mut memory[..length], noticed.fault), || format!("{length} bytes"));
+        }
+    }
+    println!("{:>16} {:>6}  of {LISTS} lists, {LARGE_LISTS} large lists, {} lengths", "first", "times", LENGTHS.len());
+    for Noticed { fault, first, times } in &faults {
+        println!("{:>16} {times:>6}  {fault:?}", first.as_deref().unwrap_or("never"));
+    }
+    let missed: Vec<_> = faults.iter().filter(|noticed| noticed.first.is_none()).map(|noticed| noticed.fault).collect();
+    assert!(missed.is_empty(), "not caught: {missed:?}");
 }
 
 /// Faults that open protected memory, for the two runs of demand 3.

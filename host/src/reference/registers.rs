@@ -169,7 +169,17 @@ impl<O: Observer, F: Faults> Gmch<'_, O, F> {
             }
             Listed::InterruptStatus => {}
             Listed::Entry(i) if self.wrong(Fault::EntryStoredWhole) => self.table[i] = data,
-            Listed::Entry(i) => self.table[i] = data & ENTRY_BITS,
+            Listed::Entry(i) => self.table[i] = data & self.entry_bits(),
+        }
+    }
+
+    /// What an entry's register write stores.
+    #[inline]
+    pub(super) fn entry_bits(&self) -> u32 {
+        if self.wrong(Fault::EntryBit29NotStored) {
+            ENTRY_BITS & !(1 << 29)
+        } else {
+            ENTRY_BITS
         }
     }
 

@@ -134,6 +134,7 @@ impl<O: Observer, F: Faults> Gmch<'_, O, F> {
             Err(Refusal::PageProtected) if IN_MEMORY && self.wrong(Fault::FetchReadsProtectedWords) => {
                 self.translate_by(self.open_word(offset as usize / 4096), offset).map(Some)
             }
+            Ok(0x2000_0000..) if self.wrong(Fault::HighFetchRefused) => Err(Refusal::PageAboveMemory),
             result => result.map(Some),
         }
     }

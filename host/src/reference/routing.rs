@@ -1,6 +1,6 @@
 //! Where an address goes, and access to main memory (document 01, "Where an address goes").
 
-use super::{reached, Access, Gmch, Lsmm, Observer, Refused, Rule, Smram, Touch, KIB};
+use super::{reached, Access, Gmch, Lsmm, Observer, Refused, Rule, Smram, Touch, KIB, MIB};
 use crate::faults::{Fault, Faults};
 use crate::record::{Answer, Refusal, Target};
 use std::ops::Range;
@@ -76,16 +76,18 @@ impl<O: Observer, F: Faults> Gmch<'_, O, F> {
     /// ```
     #[inline]
     pub fn usable_top(&self) -> u32 {
-        self.tom - self.smram().tseg_bytes() - self.smram().taken_bytes()
+        let top = self.top_unless(Fault::UsableTopBelow512Mib);
+        top - self.smram().tseg_bytes() - self.smram().taken_bytes()
     }
 
-    /// "First match, processor", rules 1 to 9.
+    /// "First match, processor", rules 1 to 9. Request 6 of document 02: "The address map's order stays."
     #[inline]
     fn route_processor(&self, access: Access, management: bool, code: bool) -> (Rule, Route) {
         match access.address {
             address @ 0..=0x9_FFFF => (Rule::Low, Route::Memory(address)),
             address @ 0xA_0000..=0xB_FFFF => self.route_compatible(address, management, code, access.data.is_some()),
             0xC_0000..=0xF_FFFF => (Rule::Bios, Route::Hub),
+            address if self.over_memory(address) => self.route_graphics(address),
             address if address < self.usable_top() => (Rule::Main, Route::Memory(address)),
             address if address < self.tom => self.route_top(address, management),
             address @ 0xFEEA_0000..=0xFEEB_FFFF if self.hseg_acts() => match management {
@@ -129,6 +131,19 @@ impl<O: Observer, F: Faults> Gmch<'_, O, F> {
         }
     }
 
+    /// Whether the registers or the window are found below TOM, which only wrong references do.
+    #[inline]
+    fn over_memory(&self, address: u32) -> bool {
+        let registers = || address.wrapping_sub(self.registers_base()) < 512 * KIB;
+        let window = || address.wrapping_sub(self.window_base()) < self.window_bytes();
+        let high = || (512 * MIB..self.tom).contains(&address);
+        let top = || (self.usable_top()..self.tom).contains(&address);
+        let over = self.wrong(Fault::RegistersOverMemory) && high() && registers()
+            || self.wrong(Fault::WindowOverMemory) && high() && window()
+            || self.wrong(Fault::GraphicsOverTop) && top() && (registers() || window());
+        over && self.graphics_decodes()
+    }
+
     /// Rules 7 to 9: "512 KiB at MMADR, 8. the window at GMADR", "9. hub". Both bases are multiples
     /// of the sizes, so a difference below the size is inside, also at the end of the 4 GiB.
     #[inline]
@@ -158,6 +173,7 @@ impl<O: Observer, F: Faults> Gmch<'_, O, F> {
         match address {
             0..=0x9_FFFF => (Rule::MasterLow, Route::Memory(address)),
             0xA_0000..=0xB_FFFF if opened => (Rule::MasterCompatible, Route::Memory(address)),
+            0x2000_0000.. if self.wrong(Fault::MastersBelow512Mib) => (Rule::MasterHub, Route::Hub),
             0x10_0000.. if address < self.usable_top() => (Rule::MasterMain, Route::Memory(address)),
             _ if self.wrong(Fault::ErrorForMasters) && self.in_tseg(address) => (Rule::MasterHub, Route::HubWithError),
             _ => (Rule::MasterHub, Route::Hub),
@@ -166,7 +182,8 @@ impl<O: Observer, F: Faults> Gmch<'_, O, F> {
 
     #[inline]
     fn in_tseg(&self, address: u32) -> bool {
-        (self.tom - self.smram().tseg_bytes()..self.tom).contains(&address)
+        let top = self.top_unless(Fault::TsegBelow512Mib);
+        (top - self.smram().tseg_bytes()..top).contains(&address)
     }
 
     /// "HSEG acts only if LSMM is 00."

@@ -45,7 +45,14 @@ impl<O: Observer, F: Faults> Gmch<'_, O, F> {
 
     #[inline]
     fn word_address(&self, number: usize) -> u64 {
-        let base = self.table_control & if self.wrong(Fault::TableBaseOf64KiB) { 0xFFFF_0000 } else { 0xFFFF_F000 };
+        let bits = if self.wrong(Fault::TableBaseOf64KiB) {
+            0xFFFF_0000
+        } else if self.wrong(Fault::TableBaseOf30Bits) {
+            0x3FFF_F000
+        } else {
+            0xFFFF_F000
+        };
+        let base = self.table_control & bits;
         match self.wrong(Fault::TableAddressWraps) {
             true => u64::from(base.wrapping_add(4 * number as u32)),
             false => u64::from(base) + 4 * number as u64,
@@ -100,7 +107,8 @@ impl<O: Observer, F: Faults> Gmch<'_, O, F> {
     pub(super) fn reach_word(&self, number: usize, by: WordUse) -> Result<u32, Refusal> {
         let address = self.word_address(number);
         let last = if self.wrong(Fault::WholeTableBelowTop) { self.word_address(TABLE_WORDS - 1) } else { address };
-        let top = if self.wrong(Fault::LastWordRefused) { self.tom - 4 } else { self.tom };
+        let top =
+            if self.wrong(Fault::LastWordRefused) { self.tom - 4 } else { self.top_unless(Fault::HighWordRefused) };
         if last >= u64::from(top) {
             return Err(match by {
                 WordUse::Lookup if self.wrong(Fault::WordAboveMemoryNotValid) => Refusal::EntryNotValid,
@@ -122,7 +130,13 @@ impl<O: Observer, F: Faults> Gmch<'_, O, F> {
     /// Whether a word here gets code 6.
     #[inline]
     fn word_closed(&self, address: u32) -> bool {
-        let tested = if self.wrong(Fault::ProtectionOfTableBase) { self.word_address(0) as u32 } else { address };
+        let tested = if self.wrong(Fault::ProtectionOfTableBase) {
+            self.word_address(0) as u32
+        } else if self.wrong(Fault::WordProtectionOf29Bits) {
+            address & 0x1FFF_FFFF
+        } else {
+            address
+        };
         self.protected(tested)
             || self.wrong(Fault::TakenWordRefused) && address >= self.usable_top()
             || self.wrong(Fault::BiosWordRefused) && (0xC_0000..=0xF_FFFF).contains(&address)
@@ -181,7 +195,7 @@ impl<O: Observer, F: Faults> Gmch<'_, O, F> {
     /// "a write masks as in 01": the word as it is stored.
     #[inline]
     fn store_word(&mut self, number: usize, address: u32, data: u32) -> u32 {
-        let word = data & if self.wrong(Fault::MemoryWordStoredWhole) { u32::MAX } else { ENTRY_BITS };
+        let word = data & if self.wrong(Fault::MemoryWordStoredWhole) { u32::MAX } else { self.entry_bits() };
         let at = address as usize;
         self.memory[at..at + 4].copy_from_slice(&word.to_le_bytes());
         if self.wrong(Fault::LookupsSeeRegisterWritesOnly) {

@@ -219,12 +219,30 @@ impl<O: Observer, F: Faults> Gmch<'_, O, F> {
     #[inline]
     pub(super) fn translate_by(&self, entry: u32, offset: u32) -> Result<u32, Refusal> {
         self.check_entry(entry)?;
-        let page = if self.wrong(Fault::HighEntryBitsCount) { entry & 0xFFFF_F000 } else { entry_page(entry) };
-        let top = if self.wrong(Fault::LastPageRefused) { self.tom - 4096 } else { self.tom };
+        let page = if self.wrong(Fault::HighEntryBitsCount) {
+            entry & 0xFFFF_F000
+        } else if self.wrong(Fault::EntryBit29NotUsed) {
+            entry & 0x1FFF_F000
+        } else {
+            entry_page(entry)
+        };
+        let top = if self.wrong(Fault::LastPageRefused) {
+            self.tom - 4096
+        } else if self.wrong(Fault::TopOf30Bits) {
+            entry_page(self.tom)
+        } else {
+            self.top_unless(Fault::HighPageRefused)
+        };
         if page >= top {
             return Err(Refusal::PageAboveMemory);
         }
-        let tested = if self.wrong(Fault::ProtectionOfOffset) { offset } else { page };
+        let tested = if self.wrong(Fault::ProtectionOfOffset) {
+            offset
+        } else if self.wrong(Fault::ProtectionOf29Bits) {
+            page & 0x1FFF_FFFF
+        } else {
+            page
+        };
         if self.protected(tested) && !self.wrong(Fault::ProtectionNotChecked) {
             return Err(Refusal::PageProtected);
         }
@@ -256,7 +274,7 @@ impl<O: Observer, F: Faults> Gmch<'_, O, F> {
     }
 }
 
-/// "page 29:12"
+/// "page 29:12". Request 6 of document 02: "Entry pages reach that far", to 1,024 MiB, so that there none is above TOM.
 #[inline]
 const fn entry_page(entry: u32) -> u32 {
     entry & 0x3FFF_F000

@@ -1,4 +1,4 @@
-//! Random lists of records that reach the corners of document 01 and of requests 3, 5 and 10 of document 02.
+//! Random lists of records that reach the corners of document 01 and of requests 3, 5, 6 and 10 of document 02.
 //!
 //! A list is made while the reference replays it, so that each record can aim at the state that it
 //! will meet: at the borders of the map as they stand, at entries and fences that are set, at the
@@ -103,7 +103,12 @@ impl<'m> Generator<'m> {
             translation_on: self.translation_on(),
             tom: self.hub.tom(),
             usable_top: self.hub.usable_top(),
+            tseg: self.hub.tom() - self.hub.smram().tseg_bytes(),
+            compatible_protected: self.hub.protected(0xA_0000),
+            graphics: self.hub.graphics_decodes(),
+            registers_base: self.hub.registers_base(),
             window_base: self.hub.window_base(),
+            window_bytes: self.hub.window_bytes(),
             fences: std::array::from_fn(|number| self.hub.fence(number).map_or(0, |fence| fence.0)),
             pm_cs: u16::from_le_bytes([0xE0, 0xE1].map(|at| self.hub.config_byte(1, at).unwrap_or(0))),
         };
@@ -292,6 +297,9 @@ impl<'m> Generator<'m> {
             3 => 0xFE00_0000,
             4 => self.random.word(),
             5 => 0xC200_0000,
+            // A large memory's last 64 MiB, which it hides, and what follows.
+            6 if self.hub.tom() >= 64 * MIB => self.hub.tom() - 64 * MIB,
+            7 if self.hub.tom() >= 64 * MIB => self.hub.tom(),
             _ => 0xC000_0000,
         };
         let registers = match self.random.below(16) {
@@ -543,7 +551,7 @@ impl<'m> Generator<'m> {
         let tom = self.hub.tom() / PAGE;
         match self.random.below(11) {
             0 => 0xA0 + self.random.below(32),
-            1 => tom - 1 - self.random.below(256),
+            1 => (tom - 1 - self.random.below(256)) % TABLE_WORDS as u32,
             2 => self.random.pick(&[8190, 8191, 8192, 16382, 16383]),
             // Their words are the last and the first of a page.
             10 => self.random.pick(&[1023, 1023, 1024, 2047, 2048]),
@@ -901,6 +909,8 @@ impl<'m> Generator<'m> {
                 0 => self.entry(),
                 1 => self.entry() & !0x06 | 1,
                 2 => continue,
+                // A large memory's last page.
+                3 if self.hub.tom() >= 64 * MIB => (self.hub.tom() - PAGE) | 1,
                 _ => self.random.below(self.hub.usable_top()) & !(PAGE - 1) | 1,
             };
             let number = ((start & 0x03FF_F000) + offset) / PAGE % TABLE_WORDS as u32;

@@ -9,6 +9,7 @@ pub mod guarded;
 pub mod isolation;
 pub mod places;
 pub mod power;
+pub mod top;
 pub mod words;
 
 use mitrophel::reference::{Observer, Rule, TableWord, Touch};
@@ -16,6 +17,7 @@ use mitrophel::{call, record, reference, Answer, Board, Record, Target};
 use places::Places;
 use power::Power;
 use std::fmt;
+use top::{Met, Top};
 use words::{Event, Words};
 
 pub const MIB: usize = 1 << 20;
@@ -120,6 +122,8 @@ impl Observer for Watch {
 
     fn answered(&mut self, record: &Record, answer: &Answer) {
         let landing = self.last.take();
+        let (meets, rule, word) = (&self.words.meets, self.words.rule(), self.words.word());
+        self.coverage.top.note(self.board, &Met { meets, rule, word, landing, record, answer });
         // A table word may have been touched last, or only.
         self.landings.push(landing.filter(|_| answer.target == Target::Memory.number()));
         if answer.code != 0 && self.words.by_window() {
@@ -146,6 +150,8 @@ pub struct Coverage {
     pub events: [u64; Event::ALL.len()],
     pub places: Places,
     pub power: Power,
+    /// Counted by itself: only the largest memory can be asked for all of it.
+    pub top: Top,
 }
 
 impl Coverage {
@@ -194,6 +200,7 @@ impl Coverage {
         for (own, other) in self.counts_mut().zip(other.counts()) {
             *own += other;
         }
+        self.top.add(&other.top);
     }
 
     /// How many uses of a table word in main memory were refused because it is protected.

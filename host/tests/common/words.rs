@@ -75,7 +75,15 @@ pub struct Meets {
     pub translation_on: bool,
     pub tom: u32,
     pub usable_top: u32,
+    /// Where the TSEG begins, which is TOM where there is none.
+    pub tseg: u32,
+    /// Whether A0000h-BFFFFh is protected.
+    pub compatible_protected: bool,
+    /// Whether rules 7 and 8 act.
+    pub graphics: bool,
+    pub registers_base: u32,
     pub window_base: u32,
+    pub window_bytes: u32,
     pub fences: [u32; 8],
     /// Device 1's register E0h.
     pub pm_cs: u16,
@@ -90,8 +98,8 @@ pub struct Words {
     /// The lookup under way, and whether the touch of its own word is still to come.
     lookup: Option<TableWord>,
     own_touch: bool,
-    /// Whether the record's table word was refused.
-    refused: bool,
+    /// The record's table word, the last one of a run.
+    word: Option<TableWord>,
     /// How each word of memory was written last.
     writers: HashMap<u32, Event>,
 }
@@ -101,6 +109,14 @@ impl Words {
         self.rule = Some(rule);
     }
 
+    pub fn rule(&self) -> Option<Rule> {
+        self.rule
+    }
+
+    pub fn word(&self) -> Option<TableWord> {
+        self.word
+    }
+
     /// Whether the record is an access through the window.
     pub fn by_window(&self) -> bool {
         self.rule == Some(Rule::Window)
@@ -108,18 +124,18 @@ impl Words {
 
     /// Whether the record's table word was refused.
     pub fn word_refused(&self) -> bool {
-        self.refused
+        self.word.is_some_and(|word| word.refusal.is_some())
     }
 
     pub fn answered(&mut self) {
         self.rule = None;
         self.lookup = None;
-        self.refused = false;
+        self.word = None;
     }
 
     pub fn table_word(&mut self, word: TableWord, coverage: &mut Coverage) {
         self.own_touch = word.refusal.is_none();
-        self.refused = word.refusal.is_some();
+        self.word = Some(word);
         self.lookup = (word.by == WordUse::Lookup && word.refusal.is_none()).then_some(word);
         if let Some(event) = self.outcome(word) {
             coverage.note(event);
