@@ -22,7 +22,7 @@ fn marked(length: usize) -> Vec<u8> {
 fn is_marked(bytes: &[u8]) -> bool {
     bytes.chunks(64 << 10).all(|part| {
         let (mark, rest) = part.split_at(part.len().min(4096));
-        mark.iter().all(|&byte| byte == UNTOUCHED) && rest.iter().all(|&byte| byte == 0)
+        mark.iter().all(|&byte| byte == UNTOUCHED) && *rest == [0; 64 << 10][..rest.len()]
     })
 }
 
@@ -89,7 +89,7 @@ fn answers_of_another_length_are_refused() {
     }
 }
 
-/// "a multiple of 8 MiB, 8 to 512 MiB"
+/// "a multiple of 8 MiB", of which 8 MiB is the least. `one_gibibyte.rs` has the largest.
 #[test]
 fn memory_of_a_wrong_length_is_refused() {
     let mut memory = marked(520 * MIB);
@@ -109,17 +109,17 @@ fn memory_of_a_wrong_length_is_refused() {
         512 * MIB + 1,
         512 * MIB + 4096,
         516 * MIB,
-        520 * MIB,
+        520 * MIB - 1,
     ];
     for length in lengths {
         assert_refused(0, &mut memory[..length], &records, records.len());
     }
 }
 
-/// The largest memory has its last word just below 512 MiB.
+/// A memory has its last word just below its length.
 #[test]
-fn memory_of_8_and_of_512_mib_is_good() {
-    for length in [8 * MIB, 16 * MIB, 504 * MIB, 512 * MIB] {
+fn memory_of_8_to_520_mib_is_good() {
+    for length in [8 * MIB, 16 * MIB, 504 * MIB, 512 * MIB, 520 * MIB] {
         let mut memory = vec![0; length];
         let top = length as u32;
         let records = record::encode(&[

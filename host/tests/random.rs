@@ -42,24 +42,6 @@ fn call_and_reference_agree_on_random_lists() {
     assert_eq!(coverage.missing(), Vec::<String>::new(), "never met");
 }
 
-/// "8 to 512 MiB": the same on the largest memory, whose pages entries can all name.
-#[test]
-fn call_and_reference_agree_on_the_largest_memory() {
-    let mut lists_of = Lists::on_zeros(seed(), 512 * MIB);
-    let mut memory = vec![0; 512 * MIB];
-    for number in 0..lists(20_000).min(300) {
-        let list = lists_of.make(number);
-        let mut answers = vec![0xA5; list.records.len()];
-        assert_eq!(call::gmch_replay(list.board, &mut memory, &list.records, &mut answers), 0);
-        if let Err(why) = lists_of.check(&list, &answers, &memory) {
-            panic!("{why}");
-        }
-        undo(&mut memory, &lists_of.pristine, &list.writes);
-        lists_of.restore(&list);
-    }
-    assert!(memory.iter().all(|&byte| byte == 0), "memory differs after one of the lists");
-}
-
 /// Any bytes are records: noise that keeps the layout half of the time, at any address.
 #[test]
 fn call_and_reference_agree_on_noise() {

@@ -589,18 +589,3 @@ fn the_examples_at_the_edges_hold_for_a_table_in_memory() {
     ];
     assert_eq!(replay(&script)[first..], expected);
 }
-
-/// The largest memory has room for a table at its very end.
-#[test]
-fn a_table_may_end_at_512_mib() {
-    let top = 512 << 20;
-    let mut script = table_at(top - 0x1_0000);
-    script.entry(16_383, top - 0x1000 + 1);
-    let last = script.window_read(16_383 << 12 | 0xFFC, 4);
-    script.register_write(0x2020, (top - 0xF000) | 1);
-    let above = script.window_read(16_383 << 12, 4);
-    let answers = replay_both(2, &mut vec![0; top as usize], &script.records);
-    // The last word of memory is the entry itself.
-    assert_eq!(answers[last], reached(Target::Memory, top - 4, top - 0x1000 + 1));
-    assert_eq!(answers[above], refused_at(7, 16_383 << 12));
-}
