@@ -112,9 +112,9 @@ pub fn replay_with<O: Observer, F: Faults>(
     0
 }
 
-/// TOM of a memory of this length; none where the length is wrong. "its length is TOM: a multiple of 8 MiB, 8 to 512 MiB",
-/// which request 6 of document 02 amends: "Raise the largest TOM from 512 MiB to 1,024 MiB. ... Lengths just above are
-/// still code 1."
+/// TOM of a memory of this length; none where the length is wrong. "its length is TOM: a multiple of 8 MiB, 8 to 512
+/// MiB", which request 6 of document 02 amends: "Raise the largest TOM from 512 MiB to 1,024 MiB. ... Lengths just above
+/// are still code 1."
 fn top_of_memory(board: Board, bytes: usize, faults: &impl Faults) -> Option<u32> {
     let bytes = if faults.has(Fault::LengthRoundedDown) { bytes - bytes % (8 << 20) } else { bytes };
     let most = match board {

@@ -29,8 +29,8 @@ struct Memories {
     expected: Vec<u8>,
 }
 
-/// Lends the memories to one test after another, and asks after each that the call's is all zero. A test that fails takes
-/// them with it.
+/// Lends the memories to one test after another, and asks after each that the call's is all zero. A test that fails
+/// takes them with it.
 fn on_memories(test: impl FnOnce(&mut Memories)) {
     static MEMORIES: Mutex<Option<Memories>> = Mutex::new(None);
     let mut kept = MEMORIES.lock().unwrap_or_else(PoisonError::into_inner);
@@ -630,7 +630,8 @@ fn every_multiple_of_8_mib_up_to_1_gib_is_good() {
     });
 }
 
-/// Asks that call and reference refuse this memory, and that nothing changes in its last word and where lists would write.
+/// Asks that call and reference refuse this memory, and that nothing changes in its last word and where the records would
+/// write.
 #[track_caller]
 fn assert_refused(memory: &mut [u8]) {
     let length = memory.len();
@@ -655,8 +656,8 @@ fn assert_refused(memory: &mut [u8]) {
     }
 }
 
-/// "Lengths just above are still code 1.": 1,032 MiB, 1,024 MiB and one byte, and what lies between; and so is what is no
-/// multiple of 8 MiB below.
+/// "Lengths just above are still code 1.": 1,032 MiB, 1,024 MiB and one byte, and what lies between; and so is what is
+/// no multiple of 8 MiB below.
 #[test]
 fn lengths_just_above_1_gib_are_refused() {
     let lengths = [
