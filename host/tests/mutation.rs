@@ -3,7 +3,7 @@
 mod common;
 
 use common::compare::{undo, List, Lists};
-use common::isolation::two_runs;
+use common::isolation::{two_runs, two_runs_on_zeros, Tally};
 use common::{seed, Watch, MIB};
 use mitrophel::faults::{Fault, OneFault};
 use mitrophel::reference::{replay, replay_with, Unobserved};
@@ -114,17 +114,30 @@ const LEAKS: [Fault; 16] = [
     Fault::ProtectedWordShown,
 ];
 
+/// Those that need more memory.
+const LARGE_LEAKS: [Fault; 3] = [Fault::ProtectionOf29Bits, Fault::WordProtectionOf29Bits, Fault::TsegBelow512Mib];
+
 /// "Useless models to try": demand 3's test must fail for a model that leaks.
 #[test]
 fn every_leak_is_caught_by_the_two_runs() {
     let seed = seed();
     for fault in LEAKS {
-        let outcome = two_runs(seed, 300, |board, memory, records, answers| {
-            replay_with(board, memory, records, answers, Unobserved, OneFault::new(fault)) == 0
-        });
-        match outcome {
-            Err(why) => println!("{fault:?}: {}", why.lines().next().unwrap_or_default()),
-            Ok(tally) => panic!("{fault:?} was not noticed: {tally:?}"),
-        }
+        assert_leaks(fault, |replay| two_runs(seed, 300, replay));
+    }
+    for fault in LARGE_LEAKS {
+        assert_leaks(fault, |replay| two_runs_on_zeros(seed, MOST_MEMORY, 100, replay));
+    }
+}
+
+type Replay<'a> = &'a dyn Fn(u32, &mut [u8], &[u8], &mut [u8]) -> bool;
+
+/// Asks that the trials of the reference with this fault end in a violation.
+fn assert_leaks(fault: Fault, trials: impl FnOnce(Replay) -> Result<Tally, String>) {
+    let outcome = trials(&|board, memory, records, answers| {
+        replay_with(board, memory, records, answers, Unobserved, OneFault::new(fault)) == 0
+    });
+    match outcome {
+        Err(why) => println!("{fault:?}: {}", why.lines().next().unwrap_or_default()),
+        Ok(tally) => panic!("{fault:?} was not noticed: {tally:?}"),
     }
 }

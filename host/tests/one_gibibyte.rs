@@ -8,6 +8,7 @@ mod common;
 
 use common::compare::{range, Lists};
 use common::guarded::{ends_of_tables, Guarded, Side, PAGE};
+use common::isolation::two_runs_on_zeros;
 use common::{lists, ran, reached, refused, refused_at, seed, Coverage, Script, Watch, MIB};
 use mitrophel::faults::Faultless;
 use mitrophel::reference::{self, replay_with, Touch};
@@ -742,4 +743,15 @@ fn agree_on_random_lists(tom: usize, count: u64, coverage: &mut Coverage) {
             coverage.add(&list.coverage);
         }
     });
+}
+
+/// Demand 3 on 1 GiB: two runs with other keys in its TSEG cannot be told apart. Each trial compares all of memory.
+#[test]
+fn two_runs_on_1_gib_cannot_be_told_apart() {
+    let outcome = two_runs_on_zeros(seed(), MOST_MEMORY, lists(20_000).min(24), |board, memory, records, answers| {
+        call::gmch_replay(board, memory, records, answers) == 0
+    });
+    let tally = outcome.unwrap_or_else(|why| panic!("{why}"));
+    println!("{tally:#?}");
+    assert!(tally.differing_bytes > 0 && tally.different_values > 0 && tally.protected_pages > 0);
 }

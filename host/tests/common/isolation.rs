@@ -82,11 +82,31 @@ fn other_list(records: &[Record], landing: &[bool], random: &mut Random) -> Vec<
 pub fn two_runs(
     seed: u64,
     trials: u64,
-    mut replay: impl FnMut(u32, &mut [u8], &[u8], &mut [u8]) -> bool,
+    replay: impl FnMut(u32, &mut [u8], &[u8], &mut [u8]) -> bool,
 ) -> Result<Tally, String> {
     let pristine = pristine_memory();
-    let mut memories =
-        Memories { scratch: pristine.clone(), first: pristine.clone(), second: pristine.clone(), pristine };
+    let memories =
+        Memories { tom: None, scratch: pristine.clone(), first: pristine.clone(), second: pristine.clone(), pristine };
+    trials_on(memories, seed, trials, replay)
+}
+
+/// The same on memories of this length, all zeros before the keys are in them.
+pub fn two_runs_on_zeros(
+    seed: u64,
+    tom: usize,
+    trials: u64,
+    replay: impl FnMut(u32, &mut [u8], &[u8], &mut [u8]) -> bool,
+) -> Result<Tally, String> {
+    let [pristine, scratch, first, second] = std::array::from_fn(|_| vec![0; tom]);
+    trials_on(Memories { tom: Some(tom), pristine, scratch, first, second }, seed, trials, replay)
+}
+
+fn trials_on(
+    mut memories: Memories,
+    seed: u64,
+    trials: u64,
+    mut replay: impl FnMut(u32, &mut [u8], &[u8], &mut [u8]) -> bool,
+) -> Result<Tally, String> {
     let mut tally = Tally::default();
     for number in 0..trials {
         let mut trial = Trial::make(Random::for_list(seed ^ 0x0A11, number), &mut memories, &mut tally);
@@ -109,6 +129,8 @@ pub fn two_runs(
 
 /// Memory before a trial; as the reference leaves it; as each of the two runs leaves it.
 struct Memories {
+    /// The length of every trial's memory, where it is not left to the trial.
+    tom: Option<usize>,
     pristine: Vec<u8>,
     scratch: Vec<u8>,
     first: Vec<u8>,
@@ -148,6 +170,7 @@ impl Trial {
     /// Makes the lists and sets the second memory.
     fn make(mut random: Random, memories: &mut Memories, tally: &mut Tally) -> Trial {
         let (board, tom) = board(&mut random);
+        let tom = memories.tom.unwrap_or(tom);
         let (before, after) = (random.below(25), 20 + random.below(80));
         let mut table = table();
         let mut generator = Generator::new(random, board, &mut memories.scratch[..tom], &mut table);
