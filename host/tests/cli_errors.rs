@@ -31,10 +31,14 @@ fn a_wrong_command_line_is_told_with_status_2() {
         (&["compare", "--board", "dc100-", "-"], "found 'dc100-'"),
         (&["replay", "--board=82810", "--board=dc100", "-"], "--board is given twice"),
         (&["replay", "--memory", "16X", "-"], "--memory: expected a size such as 16M, found '16X'"),
-        (&["replay", "--memory", "12M", "-"], "--memory: expected a multiple of 8M from 8M to 512M, found '12M'"),
+        (&["replay", "--memory", "12M", "-"], "--memory: expected a multiple of 8M from 8M to 1G, found '12M'"),
         (&["replay", "--memory", "0", "-"], "--memory: expected a multiple of 8M"),
-        (&["replay", "--memory", "520M", "-"], "--memory: expected a multiple of 8M"),
-        (&["replay", "--memory", "4G", "-"], "--memory: expected a multiple of 8M"),
+        (&["replay", "--memory", "1032M", "-"], "--memory: expected a multiple of 8M from 8M to 1G, found '1032M'"),
+        (&["state", "--memory", "1073741825", "-"], "--memory: expected a multiple of 8M from 8M to 1G, found '1073"),
+        (&["map", "--memory=40800000h"], "--memory: expected a multiple of 8M from 8M to 1G, found '40800000h'"),
+        (&["compare", "--memory", "2G", "-"], "--memory: expected a multiple of 8M from 8M to 1G, found '2G'"),
+        (&["audit", "--memory", "4G", "-"], "--memory: expected a multiple of 8M from 8M to 1G, found '4G'"),
+        (&["replay", "--memory", "4194305G", "-"], "--memory: expected a multiple of 8M from 8M to 1G"),
         (&["replay", "--memory", "99999999999G", "-"], "--memory: expected a size such as 16M"),
         (&["replay", "--text", "--binary", "-"], "--text and --binary exclude each other"),
         (&["replay", "--text=yes", "-"], "--text takes no value"),
@@ -155,7 +159,7 @@ fn an_image_that_does_not_fit_is_told() {
     let run = run_with(&["replay", "--image", &image, "-"], b"");
     assert_eq!(run.status, INPUT);
     assert!(
-        run.errors.contains("expected an image of a multiple of 8M from 8M to 512M, found 8388609"),
+        run.errors.contains("expected an image of a multiple of 8M from 8M to 1G, found 8388609"),
         "{}",
         run.errors
     );

@@ -478,7 +478,7 @@ fn an_endless_input_is_refused() {
     let records = "/dev/zero: expected at most 1 GiB of what is no plain file";
     for (words, part) in [
         (&["replay", "--memory", "8M", "--image", "/dev/zero", "trace"][..], "at most 8388608 bytes"),
-        (&["audit", "--image", "/dev/zero", "trace"], "an image of a multiple of 8M from 8M to 512M, found more"),
+        (&["audit", "--image", "/dev/zero", "trace"], "an image of a multiple of 8M from 8M to 1G, found more"),
         (&["replay", "/dev/zero"], records),
         (&["replay", "include"], "'/dev/zero' cannot be read: expected at most 1 GiB of what is no plain file"),
         (&["disasm", "/dev/zero"], records),

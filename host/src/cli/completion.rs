@@ -41,7 +41,7 @@ fn value(option: &str) -> Offer {
         "--color" => args::COLOURS.map(|(name, _)| name).to_vec(),
         "--deny" => refusals().chain(["all"]).collect(),
         "--only" => only::NAMES.iter().map(|(name, _)| *name).chain(refusals()).collect(),
-        "--memory" => vec!["8M", "16M", "32M", "64M", "128M", "256M", "512M"],
+        "--memory" => vec!["8M", "16M", "32M", "64M", "128M", "256M", "512M", "1G"],
         "--window-size" => vec!["32M", "64M"],
         "--smram" | "--window" | "--registers" | "--jobs" => Vec::new(),
         _ => return Offer::Files,

@@ -71,8 +71,8 @@ const fn in_memory(start: &'static str, own: &'static str) -> Example {
 const CODES: [Code; 13] = [
     Code {
         refusal: Refusal::Arguments,
-        when: "The call's own result: board kind not 0 to 3; memory no multiple of 8 MiB from 8 to 512 MiB; records not \
-               16 bytes each, or more than 65,535; answers not as long as the records. This program makes no such \
+        when: "The call's own result: board kind not 0 to 3; memory no multiple of 8 MiB from 8 to 1,024 MiB; records \
+               not 16 bytes each, or more than 65,535; answers not as long as the records. This program makes no such \
                call: it refuses a wrong --board or --memory with exit status 2, and a file that ends within a record \
                or is too long with exit status 3.",
         examples: &[],

@@ -71,7 +71,7 @@ by its content; '-' is standard input.
   --board NAME      82810 (default), dc100, 82810-main or dc100-main, or the
                     kind's number, 0 to 3; those in -main have the translation
                     table in main memory, at PGTBL_CTL's bits 31:12
-  --memory SIZE     main memory: a multiple of 8M, 8M to 512M
+  --memory SIZE     main memory: a multiple of 8M, 8M to 1G
                     (default: the image's length, else 8M)
   --image FILE      memory at the start, from address 0; the rest is zero
   --answers FILE    write the answers, 16 bytes each, and print nothing that no
@@ -178,7 +178,7 @@ content; '-' is standard input.
 
   --lspci           configuration space alone, as 'lspci -F' reads it
   --board NAME      82810 (default), dc100, 82810-main, dc100-main
-  --memory SIZE     main memory: a multiple of 8M, 8M to 512M
+  --memory SIZE     main memory: a multiple of 8M, 8M to 1G
                     (default: the image's length, else 8M)
   --image FILE      memory at the start, from address 0; the rest is zero
   --text, --binary  take FILE for a text trace, or for the binary form,
@@ -200,7 +200,7 @@ table; which ranges are protected. It is the map of SMRAM as given, or as the
 trace or records of FILE leave it ('-': standard input).
 
   --board NAME         82810 (default), dc100, 82810-main, dc100-main
-  --memory SIZE        main memory: a multiple of 8M, 8M to 512M
+  --memory SIZE        main memory: a multiple of 8M, 8M to 1G
                        (default: the image's length, else 8M)
   --image FILE         memory at the start
   --svg FILE           draw the map as a picture too ('-': the picture alone)
@@ -237,7 +237,7 @@ is a terminal.
   --compare         replay by the reference too, and compare every answer and
                     all of memory
   --board NAME      82810 (default), dc100, 82810-main, dc100-main
-  --memory SIZE     main memory: a multiple of 8M, 8M to 512M
+  --memory SIZE     main memory: a multiple of 8M, 8M to 1G
                     (default: the image's length, else 8M)
   --image FILE      memory at the start of every FILE
   --jobs NUMBER     files replayed side by side (default: one for each core)
@@ -269,7 +269,7 @@ is 1. Words of a table in main memory count where they are unprotected.
                     file); give it twice, what is not given is random
   --show-protected  print the values too; they are shown as dots otherwise
   --board NAME      82810 (default), dc100, 82810-main, dc100-main
-  --memory SIZE     main memory: a multiple of 8M, 8M to 512M
+  --memory SIZE     main memory: a multiple of 8M, 8M to 1G
                     (default: the image's length, else 8M)
   --image FILE      memory at the start, but for the protected bytes
   --text, --binary  take FILE for a text trace, or for the binary form

@@ -7,7 +7,7 @@ use super::follow::{Follower, Ground};
 use super::{numbers, pair, trace};
 use mitrophel::record::{self, MAX_RECORDS, RECORD_BYTES};
 use mitrophel::trace::{Assembled, Expectation, Place, Warning};
-use mitrophel::{is_memory_length, Record};
+use mitrophel::{is_memory_length, Record, MOST_MEMORY};
 use std::io;
 use std::ops::Range;
 use std::path::Path;
@@ -255,10 +255,7 @@ pub struct Memory {
     image: Vec<u8>,
 }
 
-/// The longest memory.
-const MOST_MEMORY: usize = 512 << 20;
-
-const LENGTHS: &str = "a multiple of 8M from 8M to 512M";
+const LENGTHS: &str = "a multiple of 8M from 8M to 1G";
 
 impl Memory {
     /// `--memory` and `--image`: a length, by default the image's or 8M, and what stands at address 0.
