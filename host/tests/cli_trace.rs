@@ -276,9 +276,13 @@ smm write4 9FFFCh 00000001h
 config write dev0.SMRAM 20h
 smm write1 FEEA0000h FEh
 smm write4 1FFFFFFCh 0BADCAFEh
+smm write4 3FFFFFFCh 0BADCAFEh
 smm write4 6FFFFCh 00000002h
 config write dev0.SMRAM BEh
 smm write4 700000h 0BADCAFEh
+smm write4 3FF00000h 0BADCAFEh
+smm write4 3FEFFFFCh 00000005h
+smm write4 407FFFFCh 00000006h
 write4 700000h 00000003h
 smm read4 700000h
 ";
@@ -291,7 +295,7 @@ fn a_listing_leaves_out_what_management_mode_writes_into_protected_memory() {
     let redacted = ["0BADCAFEh", "CAFEh", "FEh"]
         .iter()
         .fold(KEYS.to_string(), |text, value| text.replace(&format!(" {value}\n"), " \u{B7}\u{B7}\n"));
-    assert_eq!(redacted.matches("\u{B7}\u{B7}").count(), 7);
+    assert_eq!(redacted.matches("\u{B7}\u{B7}").count(), 9);
     assert_eq!(hidden.text, redacted);
 
     let again = run_with(&["asm", "-"], &hidden.out);

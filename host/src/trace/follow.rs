@@ -7,6 +7,7 @@
 
 use super::names::{self, Bases};
 use crate::board::Board;
+use crate::call::MOST_MEMORY;
 use crate::record::{self, Kind, Record};
 use crate::reference::{Gmch, Lsmm, Table, TABLE_WORDS};
 use std::collections::BTreeSet;
@@ -100,7 +101,7 @@ pub fn holds_secrets(records: &[u8]) -> bool {
 
 /// Places whose values are not for everybody: those that SMRAM protects at some time of a list, on a board of some
 /// kind with some length of memory. The TSEG is at the end of memory, whose length is a multiple of 8 MiB and at most
-/// 512 MiB.
+/// 1,024 MiB.
 #[derive(Clone, Debug, Default)]
 pub struct Guard {
     low: bool,
@@ -136,8 +137,8 @@ impl Guard {
     }
 
     fn tseg(&self, address: u64) -> bool {
-        const MIB: u64 = 1 << 20;
-        address < 512 * MIB && address % (8 * MIB) >= 8 * MIB - u64::from(self.tseg)
+        const STEP: u64 = 8 << 20;
+        address < MOST_MEMORY as u64 && address % STEP >= STEP - u64::from(self.tseg)
     }
 
     /// Whether what a record writes is left out of a listing: what management mode writes to such a place, and
@@ -181,10 +182,10 @@ mod tests {
     #[test]
     fn protected_places_follow_smram() {
         let low = [0xA_0000, 0xB_FFFF, 0xFEEA_0000, 0xFEEB_FFFF];
-        let small = [0x78_0000, 0x7F_FFFF, 0x1FF8_0000, 0x1FFF_FFFF];
-        let large = [0x70_0000, 0xF0_0000, 0x1FF0_0000];
+        let small = [0x78_0000, 0x7F_FFFF, 0x207F_FFFF, 0x3FF8_0000, 0x3FFF_FFFF];
+        let large = [0x70_0000, 0xF0_0000, 0x3FF0_0000];
         let never =
-            [0x9_FFFF, 0xC_0000, 0x6F_FFFF, 0x80_0000, 0x8A_0000, 0xEF_FFFF, 0x207F_FFFF, 0xFEE9_FFFF, 0xFEEC_0000];
+            [0x9_FFFF, 0xC_0000, 0x6F_FFFF, 0x80_0000, 0x8A_0000, 0x3FEF_FFFF, 0x407F_FFFF, 0xFEE9_FFFF, 0xFEEC_0000];
         for (smram, low_is, small_is, large_is) in [
             (0x00, false, false, false),
             (0x04, false, false, false),
@@ -257,8 +258,9 @@ mod tests {
             ("700000h", 0, true),
             ("6FF000h", 1023, false),
             ("6FF000h", 1024, true),
-            ("1FFFF000h", 1023, true),
-            ("1FFFF000h", 1024, false),
+            ("3FFFF000h", 1023, true),
+            ("3FFFF000h", 1024, false),
+            ("407FF000h", 0, false),
             ("FFFFF000h", 1024, false),
             ("200000h", 0, false),
         ] {
