@@ -62,7 +62,7 @@ pub fn run(words: &[OsString]) -> Result<Status, Failure> {
     let memory = Memory::given(&options)?;
     let list = List::read(&source, form)?;
 
-    let machine = Machine { board, memory: &memory, call: gmch_replay };
+    let machine = Machine::new(board, &memory, gmch_replay);
     let scope = Scope::of(&machine, &list)?;
     let runs = [Run::of(&machine, &list, &scope, &keys[0])?, Run::of(&machine, &list, &scope, &keys[1])?];
     alike_at_lock(&list, &scope, &runs)?;
@@ -314,7 +314,7 @@ mod tests {
                         write PGTBL_CTL 1\nconfig write dev0.SMRAM 4Eh\nread4 WINDOW+A000h\n";
 
     fn machine(memory: &Memory, call: Call) -> Machine<'_> {
-        Machine { board: Board::I82810, memory, call }
+        Machine::new(Board::I82810, memory, call)
     }
 
     fn keys() -> [Key; 2] {

@@ -1,6 +1,7 @@
 //! Files in and out. An output file appears whole or not at all: it is written under another name in
 //! the same folder, where only its owner can read it, and then renamed.
 
+use super::blocks;
 use super::failure::{shown, Failure};
 use super::system::{self, Doomed};
 use std::ffi::OsStr;
@@ -8,7 +9,7 @@ use std::fs::{self, File, Permissions};
 use std::io::{self, Read, Write};
 use std::os::fd::AsFd;
 use std::os::unix::ffi::OsStrExt;
-use std::os::unix::fs::{fchown, FileTypeExt, MetadataExt, OpenOptionsExt, PermissionsExt};
+use std::os::unix::fs::{fchown, FileExt, FileTypeExt, MetadataExt, OpenOptionsExt, PermissionsExt};
 use std::path::{Path, PathBuf};
 use std::process;
 
@@ -324,7 +325,6 @@ impl<'a> Pending<'a> {
             }
             old => {
                 let (file, temporary) = write_beside(&target, bytes).map_err(failure)?;
-                file.sync_all().map_err(failure)?;
                 Ok(Pending::Written(target, Box::new(Written { temporary, file, old: old.ok(), secrecy })))
             }
         }
@@ -363,10 +363,13 @@ fn keep_access(file: &File, old: &fs::Metadata) -> io::Result<()> {
     file.set_permissions(Permissions::from_mode(if kept { mode } else { mode & !GROUP }))
 }
 
-/// Writes a new file in the folder of a file.
+/// Writes a new file in the folder of a file. Blocks of zeros are left out: the file system keeps holes.
 fn write_beside(target: &Path, bytes: &[u8]) -> io::Result<(File, Temporary)> {
-    let (mut file, temporary) = Temporary::create(target.parent().unwrap_or(Path::new("/")))?;
-    file.write_all(bytes)?;
+    let (file, temporary) = Temporary::create(target.parent().unwrap_or(Path::new("/")))?;
+    for (place, block) in blocks::filled(bytes) {
+        file.write_all_at(block, place as u64)?;
+    }
+    file.set_len(bytes.len() as u64)?;
     file.sync_all()?;
     Ok((file, temporary))
 }

@@ -1,6 +1,7 @@
 //! Record lists and memories as commands take them.
 
 use super::args::Options;
+use super::blocks::{self, Blocks, BLOCK};
 use super::failure::{complain, shown, Failure, Status};
 use super::files::{Input, Source};
 use super::follow::{Follower, Ground};
@@ -252,7 +253,7 @@ pub fn whole_records(name: &str, length: u64) -> Result<(), Failure> {
 /// The memory that a call is lent.
 pub struct Memory {
     length: usize,
-    image: Vec<u8>,
+    image: Blocks,
 }
 
 const LENGTHS: &str = "a multiple of 8M from 8M to 1G";
@@ -265,19 +266,19 @@ impl Memory {
             return Err(options.usage(format!("--memory: expected {LENGTHS}, found '{}'", shown(text))));
         }
         let Some(file) = options.value("--image") else {
-            return Ok(Memory { length: length.unwrap_or(8 << 20), image: Vec::new() });
+            return Ok(Memory { length: length.unwrap_or(8 << 20), image: Blocks::default() });
         };
         let source = Source::named(file);
         let most = length.unwrap_or(MOST_MEMORY);
-        let image = source.read_within(most)?;
-        let found = if image.len() > most { "more".to_string() } else { format!("{} bytes", image.len()) };
+        let (image, bytes) = read_image(&source, most)?;
+        let found = if bytes > most { "more".to_string() } else { format!("{bytes} bytes") };
         let expected = format!("{}: expected an image of", source.name());
         match length {
-            Some(length) if image.len() > most => {
+            Some(length) if bytes > most => {
                 Err(Failure::input(format!("{expected} at most {length} bytes, the memory's length, found {found}")))
             }
             Some(length) => Ok(Memory { length, image }),
-            None if is_memory_length(image.len()) => Ok(Memory { length: image.len(), image }),
+            None if is_memory_length(bytes) => Ok(Memory { length: bytes, image }),
             None => Err(Failure::input(format!(
                 "{expected} {LENGTHS}, found {found}; with --memory a shorter one stands at address 0"
             ))),
@@ -287,18 +288,39 @@ impl Memory {
     /// A memory of zeros; `length` must be one that a call takes.
     #[cfg(test)]
     pub fn zeros(length: usize) -> Memory {
-        Memory { length, image: Vec::new() }
+        Memory { length, image: Blocks::default() }
     }
 
     /// A memory as it is at the start.
     pub fn fresh(&self) -> Vec<u8> {
         let mut memory = vec![0; self.length];
-        memory[..self.image.len()].copy_from_slice(&self.image);
+        self.image.put(&mut memory);
         memory
+    }
+
+    /// The same, made of one that was used. Reading all of it is then cheap, since the system has mapped its pages.
+    pub fn renewed(&self, mut used: Vec<u8>) -> Vec<u8> {
+        blocks::clear(&mut used);
+        self.image.put(&mut used);
+        used
     }
 
     pub fn length(&self) -> usize {
         self.length
+    }
+}
+
+/// An image and its length, of which at most one byte more than `most` is read: it tells that there are too many.
+fn read_image(source: &Source, most: usize) -> Result<(Blocks, usize), Failure> {
+    let (mut input, mut image, mut length) = (source.open()?, Blocks::default(), 0);
+    loop {
+        input.fill(BLOCK.min(most + 1 - length))?;
+        image.keep(length, &input.bytes);
+        length += input.bytes.len();
+        if input.ended || length > most {
+            return Ok((image, length));
+        }
+        input.bytes.clear();
     }
 }
 

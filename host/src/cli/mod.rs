@@ -2,6 +2,7 @@
 
 mod args;
 mod audit;
+mod blocks;
 mod compare;
 mod completion;
 mod convert;

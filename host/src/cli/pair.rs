@@ -124,6 +124,11 @@ impl Pair {
         self.proved
     }
 
+    /// The same, and the reference's memory.
+    pub fn into_memories(self) -> [Vec<u8>; 2] {
+        [self.proved, self.beside]
+    }
+
     /// Makes one call and gives its answers. `each` is told every record.
     pub fn replay<E>(&mut self, records: &[u8], each: E) -> Result<Vec<u8>, Failure>
     where

@@ -9,13 +9,13 @@ use mitrophel::Answer;
 /// and a table in main memory can have told them apart.
 pub fn alike_at_lock(list: &List, scope: &Scope, runs: &[Run; 2]) -> Result<(), Failure> {
     let [one, two] = runs;
-    let memories = one.memory_at_lock.as_ref().zip(two.memory_at_lock.as_ref());
-    let before = match memories {
+    let others = one.others_at_lock.as_ref().zip(two.others_at_lock.as_ref());
+    let before = match others {
         None => "the parser ran over bytes that were not yet protected",
         Some(_) => "the parser ran over bytes that were not yet protected, or the table was there",
     };
     let register = one.at_lock.difference(&two.at_lock).map(|(name, _)| name);
-    let byte = || memories.and_then(|(one, two)| scope.protected.difference_outside(one, two));
+    let byte = || others.and_then(|(one, two)| one.difference(two));
     let Some(name) = register.or_else(|| byte().map(|at| format!("the unprotected byte at {at:X}h"))) else {
         return Ok(());
     };
@@ -186,7 +186,7 @@ mod tests {
                 at_lock: state.clone(),
                 at_end: state.clone(),
                 kept: vec![0x99; 16],
-                memory_at_lock: None,
+                others_at_lock: None,
                 memory: [[0x11; 8], [key, key, key, key, 0x99, 0x99, 0x99, 0x99], [0x22; 8], [0x99; 8]].concat(),
                 moved: None,
             }

@@ -1,6 +1,7 @@
 //! The two runs of a trace.
 
 use super::Key;
+use crate::cli::blocks::Blocks;
 use crate::cli::failure::Failure;
 use crate::cli::load::{List, Memory};
 use crate::cli::names::{self, Bases};
@@ -8,20 +9,34 @@ use crate::cli::pair::{Call, Hub, Pair};
 use mitrophel::record;
 use mitrophel::reference::Smram;
 use mitrophel::{Answer, Board, Kind, Record, Target};
+use std::cell::RefCell;
 use std::collections::HashSet;
 use std::iter;
 use std::ops::Range;
 
 /// What a trace is replayed on.
 pub struct Machine<'a> {
-    pub board: Board,
-    pub memory: &'a Memory,
-    pub call: Call,
+    board: Board,
+    memory: &'a Memory,
+    call: Call,
+    /// Memories that were used and are not needed any more.
+    used: RefCell<Vec<Vec<u8>>>,
 }
 
-impl Machine<'_> {
-    fn pair(&self, memory: Vec<u8>) -> Pair {
-        Pair::by(self.board, [memory.clone(), memory], self.call).without_values()
+impl<'a> Machine<'a> {
+    pub fn new(board: Board, memory: &'a Memory, call: Call) -> Machine<'a> {
+        Machine { board, memory, call, used: RefCell::default() }
+    }
+
+    /// Both on a memory as it is at the start, but for what `put` puts there.
+    fn pair(&self, put: impl Fn(&mut [u8])) -> Pair {
+        let memories = [(); 2].map(|()| {
+            let used = self.used.borrow_mut().pop();
+            let mut memory = used.map_or_else(|| self.memory.fresh(), |used| self.memory.renewed(used));
+            put(&mut memory);
+            memory
+        });
+        Pair::by(self.board, memories, self.call).without_values()
     }
 }
 
@@ -98,7 +113,7 @@ pub struct Scope {
 impl Scope {
     /// Replays the trace as it is.
     pub fn of(machine: &Machine<'_>, list: &List) -> Result<Scope, Failure> {
-        let mut pair = machine.pair(machine.memory.fresh());
+        let mut pair = machine.pair(|_| ());
         let (mut locked, mut bases, mut answers) = (None, Vec::new(), Vec::new());
         for call in list.calls()? {
             answers.extend(pair.replay(&list.records[call], |step| {
@@ -109,6 +124,7 @@ impl Scope {
                 Ok(())
             })?);
         }
+        machine.used.borrow_mut().extend(pair.into_memories());
         let refused = |why: &str| Failure::input(format!("{}: {why}", list.name()));
         let lock = "expected a write that sets SMRAM's lock, bit 1, such as 'config write dev0.SMRAM 4Eh', found none";
         let missing = || refused(lock);
@@ -192,9 +208,9 @@ pub struct Run {
     pub at_end: State,
     /// The protected bytes right after the lock, in order.
     pub kept: Vec<u8>,
-    /// All of memory right after the lock, where it may depend on the key: a table in main memory can have lain in
+    /// The other bytes right after the lock, where they may depend on the key: a table in main memory can have lain in
     /// the key's bytes, and its entries decide where others go. Private entries come from the list.
-    pub memory_at_lock: Option<Vec<u8>>,
+    pub others_at_lock: Option<Blocks>,
     /// Memory at the end.
     pub memory: Vec<u8>,
     /// The first record after which other bytes are protected than at the lock.
@@ -203,11 +219,11 @@ pub struct Run {
 
 impl Run {
     pub fn of(machine: &Machine<'_>, list: &List, scope: &Scope, key: &Key) -> Result<Run, Failure> {
-        let mut start = machine.memory.fresh();
-        for (address, byte) in scope.protected.addresses().zip(key.repeated()) {
-            start[address] = byte;
-        }
-        let mut pair = machine.pair(start);
+        let mut pair = machine.pair(|memory| {
+            for (address, byte) in scope.protected.addresses().zip(key.repeated()) {
+                memory[address] = byte;
+            }
+        });
         let mut run = Run { records: scope.with_key(list, key), ..Run::default() };
         let bytes = record::encode(&run.records);
         let (mut index, mut answers) = (0, Vec::new());
@@ -221,7 +237,9 @@ impl Run {
             })?);
         }
         run.answers = record::decode_answers(&answers).collect();
-        run.memory = pair.into_memory();
+        let [memory, beside] = pair.into_memories();
+        run.memory = memory;
+        machine.used.borrow_mut().push(beside);
         Ok(run)
     }
 
@@ -230,7 +248,13 @@ impl Run {
         if index == scope.lock {
             self.at_lock = State::of(hub);
             self.kept = scope.protected.addresses().map(|address| hub.memory()[address]).collect();
-            self.memory_at_lock = hub.board().table_in_memory().then(|| hub.memory().to_vec());
+            self.others_at_lock = hub.board().table_in_memory().then(|| {
+                let mut others = Blocks::default();
+                for range in scope.protected.others(hub.memory().len()) {
+                    others.keep(range.start, &hub.memory()[range]);
+                }
+                others
+            });
         }
         if index + 1 == scope.end {
             self.at_end = State::of(hub);
