@@ -332,8 +332,11 @@ impl Asked {
         ));
         if hub.graphics_decodes() {
             let size = numbers::bytes(hub.window_bytes().into());
-            self.lines.push(format!("Window: {size} at {:X}h (GMADR).", hub.window_base()));
-            self.lines.push(format!("Registers: 512 KiB at {:X}h (MMADR).", hub.registers_base()));
+            // Memory comes first.
+            let hidden = |base: u32| if base < hub.tom() { ", hidden below TOM" } else { "" };
+            let (window, registers) = (hub.window_base(), hub.registers_base());
+            self.lines.push(format!("Window: {size} at {window:X}h (GMADR){}.", hidden(window)));
+            self.lines.push(format!("Registers: 512 KiB at {registers:X}h (MMADR){}.", hidden(registers)));
         } else {
             self.lines.push("Window and registers are off.".to_string());
         }
