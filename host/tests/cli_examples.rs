@@ -42,6 +42,7 @@ samples! {
     request_3_power_states: "request-3-power-states",
     request_5_where_it_was_refused: "request-5-where-it-was-refused",
     request_5_word_of_the_table: "request-5-word-of-the-table",
+    request_6_one_gibibyte: "request-6-one-gibibyte",
     request_10_table_in_main_memory: "request-10-table-in-main-memory",
     the_desk_of_the_demo: "desk",
 }
@@ -186,6 +187,25 @@ fn the_boards_with_the_table_in_main_memory_differ_in_their_ids() {
         ["+ memory 200048h = 00000000h (rule 4: below U, 680000h)\n", "+ registers at their defaults, table zeroed\n"]
     {
         assert!(private.text.contains(part), "{part}\n{}", private.text);
+    }
+}
+
+/// Request 6 of document 02: the sample has the same answers whatever the board, and needs the whole length.
+#[test]
+fn one_gibibyte_is_what_the_sample_needs() {
+    let trace = example("request-6-one-gibibyte.trace");
+    let [private, in_memory] = ["82810", "dc100-main"].map(|board| {
+        let run = run(&["replay", "--memory", "1024M", "--board", board, "--answers", "-", &trace]);
+        assert_eq!((run.status, run.errors.as_str()), (DONE, ""), "{board}");
+        run.out
+    });
+    assert!(private == in_memory);
+    for length in ["512M", "1016M"] {
+        let run = run(&["replay", "--check", "--memory", length, &trace]);
+        assert_eq!((run.status, run.errors.as_str()), (UNMET, ""), "{length}");
+        for part in ["\n- memory 3FFFFFFCh = 00001024h (rule 4", "\n+ refused 7: page 3FFFF000h of entry 1 "] {
+            assert!(run.text.contains(part), "{length}: {part}\n{}", run.text);
+        }
     }
 }
 
