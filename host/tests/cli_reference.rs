@@ -57,6 +57,7 @@ fn bash_completes_commands_options_and_values() {
         (&["replay", "--board", "="], &["82810", "dc100", "82810-main", "dc100-main"]),
         (&["state", "--board", "82810-"], &["82810-main"]),
         (&["audit", "--color", "a"], &["auto", "always"]),
+        (&["map", "--memory", "1"], &["16M", "128M", "1G"]),
         (&["audit", "night.rec", "--deny", "pro"], &["protected"]),
         (&["map", "--smram", ""], &[]),
         (&["audit", "--jobs", ""], &[]),
@@ -152,6 +153,25 @@ fn the_orders_of_both_homes_of_the_table_are_told() {
         }
     }
     for (code, part) in [("6", "entry's own word"), ("7", "does not wrap at 32 bits"), ("1", "board kind not 0 to 3")] {
+        let told = run(&["explain", code]).text.split_whitespace().collect::<Vec<_>>().join(" ");
+        assert!(told.contains(part), "{told}");
+    }
+}
+
+/// Help, manual page and explanations have the bounds of memory: request 6 of document 02.
+#[test]
+fn the_longest_memory_is_told() {
+    let page = fs::read_to_string(concat!(env!("CARGO_MANIFEST_DIR"), "/mitrophel.1")).expect("the manual page");
+    assert!(page.contains("Length of main memory: a multiple of 8M, 8M to 1G. "));
+    assert!(page.contains("at the end of every multiple of 8 MiB up to\n1,024 MiB. "));
+    for command in ["replay", "state", "map", "audit", "compare"] {
+        let help = run(&[command, "--help"]).text;
+        let line = help.lines().find(|line| line.trim_start().starts_with("--memory SIZE")).expect("the option");
+        assert!(line.ends_with("main memory: a multiple of 8M, 8M to 1G"), "{command}: {line}");
+    }
+    for (code, part) in
+        [("1", "multiple of 8 MiB from 8 to 1,024 MiB;"), ("7", "memory's length; none can with 1 GiB.")]
+    {
         let told = run(&["explain", code]).text.split_whitespace().collect::<Vec<_>>().join(" ");
         assert!(told.contains(part), "{told}");
     }

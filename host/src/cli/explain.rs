@@ -116,10 +116,10 @@ const CODES: [Code; 13] = [
     },
     Code {
         refusal: Refusal::PageAboveMemory,
-        when: "The table entry names a page at or above the top of memory, which is memory's length. Where the table is \
-               in main memory (boards 82810-main and dc100-main), also: the entry's own word, at PGTBL_CTL's bits \
-               31:12 + 4 x entry, a sum that does not wrap at 32 bits, lies there. An access to the entry's register is \
-               then refused, too.",
+        when: "The table entry names a page at or above the top of memory, which is memory's length; none can with 1 \
+               GiB. Where the table is in main memory (boards 82810-main and dc100-main), also: the entry's own word, \
+               at PGTBL_CTL's bits 31:12 + 4 x entry, a sum that does not wrap at 32 bits, lies there. An access to \
+               the entry's register is then refused, too.",
         examples: &[
             example(DESK, "write PGTBL_CTL 1\nentry 1 800000h  # memory is 8M\nread4 WINDOW+1000h\n"),
             in_memory(DESK, "write PGTBL_CTL 800001h  # memory is 8M\nread GTT[1]  # the word at 800004h\n"),
