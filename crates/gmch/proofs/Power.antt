@@ -27,7 +27,7 @@ use Rattle.gmch.specs.declared.State.{State}
 use Rattle.gmch.specs.declared.Access.{Access}
 use Rattle.gmch.specs.declared.Record.{Record}
 use Rattle.gmch.specs.declared.Target.{Target}
-use Rattle.gmch.specs.declared.Target.the-variants.{Refused, Memory, Register, Hub, HubError, Vga, Mapped, Entry}
+use Rattle.gmch.specs.declared.Target.the-variants.{Refused, Memory, Cache, Register, Hub, HubError, Vga, Mapped, Entry, CacheRegister}
 use Rattle.gmch.proofs.Choice.{choices, pick-elim, pick-elim₂}
 use Rattle.gmch.proofs.Config.{byte-after, bytes-other, byte-beside, writes-keep}
 
@@ -132,12 +132,14 @@ act-supported : (x : Machine) (a : Access) (v : ℕ) → Supported (x .state) �
 unfolding act
 act-supported x a v h (Refused c o) = h
 act-supported x a v h (Memory p) = pick-elim After _ (λ _. h) (λ _. h)
+act-supported x a v h (Cache p) = pick-elim After _ (λ _. h) (λ _. h)
 act-supported x a v h (Register n) = pick-elim After _ (λ _. register-supported (x .state) n (a .width) v h) (λ _. h)
 act-supported x a v h (Hub p) = h
 act-supported x a v h (HubError p) = other-device (x .state) (withError (x .state)) refl h
 act-supported x a v h (Vga o) = h
 act-supported x a v h (Mapped o) = pick-elim After _ (λ _. mapped-supported (x .state) o v h) (λ _. h)
 act-supported x a v h (Entry o p) = pick-elim After _ (λ _. h) (λ _. h)
+act-supported x a v h (CacheRegister o) = pick-elim After _ (λ _. h) (λ _. h)
 
 cold-supported : (kind : ℕ) → Supported (coldStart kind)
 unfolding coldStart coldBytes defaultsFrom idByte masksOf rowIn rows within unsupported _and_ _or_ pick

@@ -4,7 +4,7 @@ use mathlib.Core.Path.{_≡_, refl, sym, _∙_}
 use mathlib.Core.List.{List, [], _∷_}
 use native.Mathlib.Omega.{arith}
 use Rattle.gmch.specs.Fence.{fenceReach, fenced}
-use Rattle.gmch.specs.Table.{entryReach, entryAt, entered, translate, translated, windowReach, wordReach}
+use Rattle.gmch.specs.Table.{foreignReach, entryReach, entryAt, entered, translate, translated, windowReach, wordReach}
 use Rattle.gmch.specs.Mapped.{entryNumber}
 use Rattle.gmch.specs.Access.{entryTarget, resolved}
 use Rattle.gmch.specs.declared.Map.{Map}
@@ -13,6 +13,8 @@ use Rattle.gmch.specs.declared.Look.{Look}
 use Rattle.gmch.specs.declared.Look.the-variants.{Word, Missing}
 use Rattle.gmch.specs.declared.Reach.{Reach}
 use Rattle.gmch.specs.declared.Reach.the-variants.{At, Denied}
+use Rattle.gmch.specs.declared.Place.{Place}
+use Rattle.gmch.specs.declared.Place.the-variants.{InMain, InCache, NoPlace}
 use Rattle.gmch.specs.declared.Target.{Target}
 use Rattle.gmch.specs.declared.Target.the-variants.{Refused, Mapped, Entry}
 use Rattle.gmch.specs.declared.Route.the-variants.{Registers}
@@ -32,19 +34,20 @@ fenced-names (f ∷ fs) o c n =
     P r = r ≡ Denied c n → (c ≡ 9) × (n ≡ o)
 
 -- a translation's, with whatever code, names the offset that it was given
-module _ (m : Map) (o c n : ℕ) where
-  P : Reach → Type 0
-  P r = r ≡ Denied c n → n ≡ o
+module _ (m : Map) (o : ℕ) where
+  abbrev P : Place → Type 0
+  P (InMain p) = Unit {0}
+  P (InCache p) = Unit {0}
+  P (NoPlace c n) = n ≡ o
 
   entered-names : (x : Look) → P (entered m o x)
-  unfolding entered entryReach P
+  unfolding entered entryReach foreignReach
   entered-names (Word entry) =
-      pick-elim P _ (λ _ e. cc) (λ _. pick-elim P _ (λ _ e. cc) (λ _.
-      pick-elim P _ (λ _ e. cc) (λ _. pick-elim P _ (λ _ e. cc) (λ _ e. denied (sym e)))))
-  entered-names (Missing d) = λ e. cc
+      pick-elim P _ (λ _. refl) (λ _. pick-elim P _ (λ _. pick-elim P _ (λ _. pick-elim P _ (λ _. refl) (λ _. tt)) (λ _. refl)) (λ _.
+      pick-elim P _ (λ _. refl) (λ _. pick-elim P _ (λ _. refl) (λ _. tt))))
+  entered-names (Missing d) = refl
 
-  translate-names : (control : ℕ) (look : ℕ → Look) → translate m control look o ≡ Denied c n → n ≡ o
-  unfolding P
+  translate-names : (control : ℕ) (look : ℕ → Look) → P (translate m control look o)
   translate-names control look = entered-names (entryAt control look o)
 
 -- so a window access at o that is refused with c names n: o itself where the fence refuses, which is 9; the offset after
@@ -53,13 +56,13 @@ pub data Names (fences : List ℕ) (o c n : ℕ) : Type 0 where
   before-fencing : c ≡ 9 → n ≡ o → Names fences o c n
   after-fencing : fenced fences o ≡ At n → Names fences o c n
 
-pub window-names : (m : Map) (fences : List ℕ) (control : ℕ) (look : ℕ → Look) (o c n : ℕ) → windowReach m fences control look o ≡ Denied c n
+pub window-names : (m : Map) (fences : List ℕ) (control : ℕ) (look : ℕ → Look) (o c n : ℕ) → windowReach m fences control look o ≡ NoPlace c n
     → Names fences o c n
 unfolding translated
 window-names m fences control look o c n = go (fenced fences o) refl
   where
-    go : (r : Reach) → fenced fences o ≡ r → translated m control look r ≡ Denied c n → Names fences o c n
-    go (At v) f e = let q = translate-names m v c n control look e in after-fencing (rw q f)
+    go : (r : Reach) → fenced fences o ≡ r → translated m control look r ≡ NoPlace c n → Names fences o c n
+    go (At v) f e = let q = rw e at (translate-names m v control look) in after-fencing (rw q f)
     go (Denied d k) f e =
         let q = fenced-names fences o d k f in
         let h : d ≡ c = cc in
@@ -80,7 +83,8 @@ pub registers-name-none : (m : Map) (fences : List ℕ) (control : ℕ) (look : 
     → resolved m fences control look a (Registers o) ≡ Refused c n → n ≡ 0
 unfolding resolved
 registers-name-none m fences control look a o c n =
-    pick-elim P _ (λ _ e. cc) (λ _. pick-elim P _ (λ _. word (wordReach m control (entryNumber o)) refl) (λ _. answered))
+    pick-elim P _ (λ _ e. cc) (λ _. pick-elim P _ (λ _. word (wordReach m control (entryNumber o)) refl) (λ _.
+    pick-elim P _ (λ _ e. let q : _≡_ {A = ℕ} 0 1 = cc in absurd (omega arith)) (λ _. answered)))
   where
     P : Target → Type 0
     P t = t ≡ Refused c n → n ≡ 0

@@ -1,4 +1,5 @@
 -- Document 01, 'Records and answers', 'Codes' and 'Where an address goes': one access, where it ends and what it does there.
+-- Request 11 of document 02: the display cache and its registers.
 use Prim.Native.Nat.{ℕ}
 use mathlib.Core.List.{List}
 use mathlib.Core.Bool.{not}
@@ -6,11 +7,11 @@ use lib.Dec.{leb}
 use Rattle.gmch.specs.Choice.{pick, _and_}
 use Rattle.gmch.specs.Words.{loadLe, storeLe}
 use Rattle.gmch.specs.Records.{accessOf, fitsWord, reply}
-use Rattle.gmch.specs.Config.{withError, portTarget, registerValue, registerWritten}
-use Rattle.gmch.specs.Machine.{Machine, withState, withTable, withMain}
+use Rattle.gmch.specs.Config.{withDram, withError, portTarget, registerValue, registerWritten}
+use Rattle.gmch.specs.Machine.{Machine, withState, withTable, withMain, withCache}
 use Rattle.gmch.specs.Map.{mapOf, routeOf, masterTarget}
 use Rattle.gmch.specs.Table.{windowReach, inMemory, wordReach, lookOf}
-use Rattle.gmch.specs.Mapped.{misfit, isEntry, entryNumber, mappedValue, mappedWritten, stored, tableWritten}
+use Rattle.gmch.specs.Mapped.{listedByte, misfit, isEntry, entryNumber, mappedValue, mappedWritten, stored, tableWritten, dramValue, dramWritten}
 use Rattle.gmch.specs.declared.Board.{Board}
 use Rattle.gmch.specs.declared.Map.{Map}
 use Rattle.gmch.specs.declared.Record.{Record}
@@ -19,16 +20,19 @@ use Rattle.gmch.specs.declared.Answer.{Answer}
 use Rattle.gmch.specs.declared.Look.{Look}
 use Rattle.gmch.specs.declared.Reach.{Reach}
 use Rattle.gmch.specs.declared.Reach.the-variants.{At, Denied}
+use Rattle.gmch.specs.declared.Place.{Place}
+use Rattle.gmch.specs.declared.Place.the-variants.{InMain, InCache, NoPlace}
 use Rattle.gmch.specs.declared.Target.{Target}
-use Rattle.gmch.specs.declared.Target.the-variants.{Refused, Memory, Register, Hub, HubError, Vga, Mapped, Entry}
+use Rattle.gmch.specs.declared.Target.the-variants.{Refused, Memory, Cache, Register, Hub, HubError, Vga, Mapped, Entry, CacheRegister}
 use Rattle.gmch.specs.declared.Route.{Route}
 use Rattle.gmch.specs.declared.Route.the-variants.{To, Registers, Window}
 
 -- ---- where it ends. Nothing here looks at the record's data
 
-abbrev pub reached : Reach → Target
-reached (At p) = Memory p
-reached (Denied c o) = Refused c o
+abbrev pub reached : Place → Target
+reached (InMain p) = Memory p
+reached (InCache p) = Cache p
+reached (NoPlace c o) = Refused c o
 
 -- an entry of a table in main memory: codes 7, 6
 abbrev pub entryTarget : ℕ → Reach → Target
@@ -39,9 +43,10 @@ entryTarget o (Denied c n) = Refused c n
 unfoldable pub resolved : Map → List ℕ → ℕ → (ℕ → Look) → Access → Route → Target
 resolved m fences control look a (To t) = t
 resolved m fences control look a (Registers o) =
-    pick (misfit o (a .width)) (Refused 10 0)
+    pick (misfit (m .kind) o (a .width)) (Refused 10 0)
     (pick (inMemory m and isEntry o) (entryTarget o (wordReach m control (entryNumber o)))
-    (Mapped o))
+    (pick (listedByte (m .kind) o) (CacheRegister o)
+    (Mapped o)))
 resolved m fences control look a (Window o) = reached (windowReach m fences control look o)
 
 -- an access of kinds 1 to 7: 2; ports; the processor; hub masters
@@ -76,6 +81,10 @@ act x a v (Memory p) =
     pick (a .write)
     (done (withMain x (storeLe (a .width) p v (x .memories .main))) (Memory p) 0)
     (done x (Memory p) (loadLe (a .width) p (x .memories .main)))
+act x a v (Cache p) =
+    pick (a .write)
+    (done (withCache x (storeLe (a .width) p v (x .memories .cache))) (Cache p) 0)
+    (done x (Cache p) (loadLe (a .width) p (x .memories .cache)))
 act x a v (Register n) =
     pick (a .write)
     (done (withState x (registerWritten (x .state) n (a .width) v)) (Register n) 0)
@@ -92,19 +101,26 @@ act x a v (Entry o p) =
     pick (a .write)
     (done (withMain x (storeLe 4 p (stored v) (x .memories .main))) (Entry o p) 0)
     (done x (Entry o p) (loadLe 4 p (x .memories .main)))
+act x a v (CacheRegister o) =
+    pick (a .write)
+    (done (withState x (withDram (x .state) (dramWritten (x .state .dram) o v))) (CacheRegister o) 0)
+    (done x (CacheRegister o) (dramValue (x .state .dram) o))
 
 -- ---- the target's place in memory
 
 pub data Location : Type 0 where
   Nowhere : Location
   Main : ℕ → Location
+  Display : ℕ → Location
 
 unfoldable pub locationOf : Target → Location
 locationOf (Refused c o) = Nowhere
 locationOf (Memory p) = Main p
+locationOf (Cache p) = Display p
 locationOf (Register n) = Nowhere
 locationOf (Hub p) = Nowhere
 locationOf (HubError p) = Nowhere
 locationOf (Vga o) = Nowhere
 locationOf (Mapped o) = Nowhere
 locationOf (Entry o p) = Main p
+locationOf (CacheRegister o) = Nowhere
