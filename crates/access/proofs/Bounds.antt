@@ -6,7 +6,8 @@ use mathlib.Core.Bool.{Bool, true, false}
 use native.Mathlib.Omega.{arith}
 use lib.ListN.{length}
 use Rattle.gmch.specs.Records.{fitsWord}
-use Rattle.gmch.specs.Map.{Tom, Sized, mapFrom, mapOf, routeOf}
+use Rattle.gmch.specs.Map.{Tom, Sized, Cached, mapFrom, mapOf, routeOf}
+use Rattle.gmch.specs.Machine.{cacheSize, cacheLength}
 use Rattle.gmch.specs.Access.{targetIn}
 use Rattle.gmch.specs.declared.Board.{Board}
 use Rattle.gmch.specs.declared.State.{State}
@@ -17,20 +18,20 @@ use Rattle.gmch.specs.declared.Target.{Target}
 use Rattle.gmch.specs.declared.Target.the-variants.{Refused}
 use Rattle.gmch.specs.declared.Route.{Route}
 use Rattle.gmch.proofs.Choice.{choices}
-use Rattle.gmch.proofs.Routing.{Safe, refused-safe, memory-safe, register-safe, hub-safe, error-safe, vga-safe, mapped-safe, entry-safe, sized, target-safe, SafeRoute, to-safe, registers-safe, offset-safe, route-safe}
+use Rattle.gmch.proofs.Routing.{Safe, refused-safe, memory-safe, cache-safe, register-safe, hub-safe, error-safe, vga-safe, mapped-safe, entry-safe, cache-register-safe, sized, cached, target-safe, SafeRoute, to-safe, registers-safe, offset-safe, route-safe}
 use Rattle.words.specs.Width.{Width}
 use Rattle.words.proofs.Width.{fits-width}
 use Rattle.access.specs.Decide.{Reachable, InWindow}
 
 -- ---- what a decision asks
 
-pub ready : (b : Board) (s : State) (table main : List ℕ) (m : Map) → m ≡ mapOf b s → Tom (b .tom) → length table ≡ 16384 → length main ≡ b .tom
-    → (m ≡ mapOf b s) × Sized m table main
-ready b s table main m e z l k = (e, rw e (sized b s table main z l k))
+pub ready : (b : Board) (s : State) (table main cache : List ℕ) (m : Map) → m ≡ mapOf b s → Tom (b .tom) → length table ≡ 16384 → length main ≡ b .tom
+    → length cache ≡ cacheLength (b .kind) → (m ≡ mapOf b s) × Sized m table main × Cached m cache
+ready b s table main cache m e z l k n = (e, rw e (sized b s table main z l k), rw e (cached b s cache n))
 
 -- ---- the window
 
-in-window : {tom smram n : ℕ} {a : Access} {r : Route} → n ≤ 0x4000000 → SafeRoute tom smram n a r → InWindow r
+in-window : {tom smram n : ℕ} {cache : Bool} {a : Access} {r : Route} → n ≤ 0x4000000 → SafeRoute tom smram cache n a r → InWindow r
 in-window h (to-safe e) = tt
 in-window h registers-safe = tt
 in-window h (offset-safe o l k) = omega arith
@@ -44,15 +45,18 @@ route-ready table main m a r z f k =
 
 -- ---- targets
 
-reachable : {tom smram : ℕ} {a : Access} {t : Target} → Tom tom → Width (a .width) → Safe tom smram a t → Reachable tom (a .width) t
-reachable z d refused-safe = tt
-reachable z d (memory-safe p l h n) = (d, omega arith)
-reachable z d (register-safe n k) = k
-reachable z d hub-safe = tt
-reachable z d error-safe = tt
-reachable z d vga-safe = tt
-reachable z d mapped-safe = tt
-reachable z d (entry-safe p l h n) = omega arith
+reachable : {tom smram size : ℕ} {cache : Bool} {a : Access} {t : Target} → Tom tom → (cache ≡ true → size ≡ cacheSize) → Width (a .width)
+    → Safe tom smram cache a t → Reachable tom size (a .width) t
+reachable z c d refused-safe = tt
+reachable z c d (memory-safe p l h n) = (d, omega arith)
+reachable z c d (cache-safe p on l h) = let e = c on in (d, omega arith)
+reachable z c d (register-safe n k) = k
+reachable z c d hub-safe = tt
+reachable z c d error-safe = tt
+reachable z c d vga-safe = tt
+reachable z c d mapped-safe = tt
+reachable z c d (entry-safe p l h n) = omega arith
+reachable z c d cache-register-safe = tt
 
 module _ (m : Map) (cf8 : ℕ) (fences : List ℕ) (control : ℕ) (look : ℕ → Look) (kind : ℕ) (a : Access) where
   abbrev t : Target
@@ -62,9 +66,9 @@ module _ (m : Map) (cf8 : ℕ) (fences : List ℕ) (control : ℕ) (look : ℕ �
   unfolding targetIn
   misfit-refused e = simp (e, choices)
 
-  pub target-reachable : Tom (m .tom) → m .gmadr % 4 ≡ 0 → Reachable (m .tom) (a .width) t
-  target-reachable z g = by (fitsWord (a .width) (a .address)) refl
+  pub target-reachable : (cache : List ℕ) → Tom (m .tom) → m .gmadr % 4 ≡ 0 → Cached m cache → Reachable (m .tom) (length cache) (a .width) t
+  target-reachable cache z g c = by (fitsWord (a .width) (a .address)) refl
     where
-      by : (f : Bool) → fitsWord (a .width) (a .address) ≡ f → Reachable (m .tom) (a .width) t
-      by true e = reachable z (fits-width (a .width) (a .address) e .0) (target-safe m cf8 fences control look kind a z g)
+      by : (f : Bool) → fitsWord (a .width) (a .address) ≡ f → Reachable (m .tom) (length cache) (a .width) t
+      by true e = reachable z (c .whole) (fits-width (a .width) (a .address) e .0) (target-safe m cf8 fences control look kind a z g)
       by false e = rw (misfit-refused e) tt

@@ -1,4 +1,4 @@
--- One record as the code takes it: decided with the state only read, table and memory changed on the spot, and what is
+-- One record as the code takes it: decided with the state only read, table and memories changed on the spot, and what is
 -- left to do to the state given as an effect.
 use Prim.Native.Nat.{ℕ, _+_, _%_, _≤_, _<_}
 use mathlib.Core.List.{List}
@@ -7,28 +7,30 @@ use mathlib.Core.Bool.{Bool}
 use lib.Bits.{bitAnd}
 use lib.Dec.{eqb}
 use Rattle.gmch.specs.Choice.{pick}
-use Rattle.gmch.specs.Config.{withCf8, withRegs, withError, Placed, configWrite}
+use Rattle.gmch.specs.Config.{withCf8, withRegs, withDram, withError, Placed, configWrite}
 use Rattle.gmch.specs.Machine.{machine}
-use Rattle.gmch.specs.Mapped.{isEntry, mappedWritten}
+use Rattle.gmch.specs.Mapped.{isEntry, mappedWritten, dramWritten}
 use Rattle.gmch.specs.Access.{Out}
 use Rattle.gmch.specs.Replay.{coldStart}
 use Rattle.words.specs.Width.{Width}
 use Rattle.gmch.specs.Ring.{withHead}
 use Rattle.gmch.specs.declared.State.{State}
 use Rattle.gmch.specs.declared.Regs.{Regs}
+use Rattle.gmch.specs.declared.Dram.{Dram}
 use Rattle.gmch.specs.declared.Target.{Target}
-use Rattle.gmch.specs.declared.Target.the-variants.{Refused, Memory, Register, Hub, HubError, Vga, Mapped, Entry}
+use Rattle.gmch.specs.declared.Target.the-variants.{Refused, Memory, Cache, Register, Hub, HubError, Vga, Mapped, Entry, CacheRegister}
 use Rattle.gmch.specs.declared.Route.{Route}
 use Rattle.gmch.specs.declared.Route.the-variants.{To, Registers, Window}
 use Rattle.access.specs.declared.Effect.{Effect}
 use Rattle.access.specs.declared.Effect.the-variants.{Keep, Ring, Select, Configure, Rarely}
 use Rattle.access.specs.declared.Rare.{Rare}
-use Rattle.access.specs.declared.Rare.the-variants.{Store, Error, Reset}
+use Rattle.access.specs.declared.Rare.the-variants.{Store, StoreCache, Error, Reset}
 use Rattle.access.specs.declared.Decided.{Decided}
 
 -- the state after an effect
 unfoldable pub changed : State → Rare → State
 changed s (Store o v) = mappedWritten s o v
+changed s (StoreCache o v) = withDram s (dramWritten (s .dram) o v)
 changed s Error = withError s
 changed s (Reset kind) = coldStart kind
 
@@ -47,13 +49,13 @@ storeEffect write o v = pick write (pick (isEntry o) Keep (Rarely (Store o v))) 
 unfoldable pub registerEffect : ℕ → ℕ → ℕ → Effect
 registerEffect n width v = pick (eqb n 0xCF8) (Select (bitAnd v 0x80FFFFFC)) (Configure n width v)
 
--- a decision in the state s that left this table and this memory
-abbrev pub carried : State → List ℕ → List ℕ → Decided → Out
-carried s table main d = record { after = machine (applied s (d .effect)) table main; answer = d .answer }
+-- a decision in the state s that left this table and these memories
+abbrev pub carried : State → List ℕ → List ℕ → List ℕ → Decided → Out
+carried s table main cache d = record { after = machine (applied s (d .effect)) table main cache; answer = d .answer }
 
 -- a state by the parts that a decision goes by, and whether 2Ch and 2Eh have been written, which it does not look at
-abbrev pub stateOf : ℕ → List ℕ → List ℕ → List ℕ → Regs → Bool → Bool → State
-stateOf cf8 dev0 dev1 fences regs c e = record { cf8 = cf8; dev0 = dev0; dev1 = dev1; wrote2c = c; wrote2e = e; fences = fences; regs = regs }
+abbrev pub stateOf : ℕ → List ℕ → List ℕ → List ℕ → Regs → Dram → Bool → Bool → State
+stateOf cf8 dev0 dev1 fences regs dram c e = record { cf8 = cf8; dev0 = dev0; dev1 = dev1; wrote2c = c; wrote2e = e; fences = fences; regs = regs; dram = dram }
 
 -- ---- the bytes that are taken are there
 
@@ -64,15 +66,17 @@ InWindow (Registers o) = Unit {0}
 InWindow (Window o) = o < 0x4000000
 
 -- those of an access of this width, which is 4 for an entry of the table
-abbrev pub Reachable : ℕ → ℕ → Target → Type 0
-Reachable tom width (Refused c o) = Unit {0}
-Reachable tom width (Memory p) = Width width × (p + width ≤ tom)
-Reachable tom width (Register n) = Placed n width
-Reachable tom width (Hub p) = Unit {0}
-Reachable tom width (HubError p) = Unit {0}
-Reachable tom width (Vga o) = Unit {0}
-Reachable tom width (Mapped o) = Unit {0}
-Reachable tom width (Entry o p) = p + 4 ≤ tom
+abbrev pub Reachable : ℕ → ℕ → ℕ → Target → Type 0
+Reachable tom cache width (Refused c o) = Unit {0}
+Reachable tom cache width (Memory p) = Width width × (p + width ≤ tom)
+Reachable tom cache width (Cache p) = Width width × (p + width ≤ cache)
+Reachable tom cache width (Register n) = Placed n width
+Reachable tom cache width (Hub p) = Unit {0}
+Reachable tom cache width (HubError p) = Unit {0}
+Reachable tom cache width (Vga o) = Unit {0}
+Reachable tom cache width (Mapped o) = Unit {0}
+Reachable tom cache width (Entry o p) = p + 4 ≤ tom
+Reachable tom cache width (CacheRegister o) = Unit {0}
 
 -- those of a configuration write
 abbrev pub Sound : Effect → Type 0
@@ -85,5 +89,5 @@ Sound (Rarely e) = Unit {0}
 -- ---- a decision is right
 
 -- in every state of these parts it is what the definitions say, and its effect can be carried out
-abbrev pub Decides : (Bool → Bool → State) → List ℕ → List ℕ → Decided → (State → Out) → Type 0
-Decides s table main d out = ((c e : Bool) → carried (s c e) table main d ≡ out (s c e)) × Sound (d .effect)
+abbrev pub Decides : (Bool → Bool → State) → List ℕ → List ℕ → List ℕ → Decided → (State → Out) → Type 0
+Decides s table main cache d out = ((c e : Bool) → carried (s c e) table main cache d ≡ out (s c e)) × Sound (d .effect)

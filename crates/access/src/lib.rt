@@ -1,9 +1,11 @@
-// One access: where it ends, and what it does there. It is decided with the state only read; table and memory are changed
+// One access: where it ends, and what it does there. It is decided with the state only read; table and memories are changed
 // here, and what is left to do to the state is given as an effect.
 use gmch::Access;
 use gmch::Answer;
 use gmch::Board;
+use gmch::Dram;
 use gmch::Map;
+use gmch::Place;
 use gmch::Reach;
 use gmch::Regs;
 use gmch::Route;
@@ -15,7 +17,7 @@ ghost use lib.ListN.{length};
 ghost use Rattle.gmch.specs.Choice.{pick};
 ghost use Rattle.gmch.specs.Words.{loadLe, storeLe};
 ghost use Rattle.gmch.specs.Records.{reply};
-ghost use Rattle.gmch.specs.Machine.{lent, machine};
+ghost use Rattle.gmch.specs.Machine.{machine};
 ghost use Rattle.gmch.specs.Map.{Tom, Sized, mapIn};
 ghost use Rattle.gmch.specs.Table.{wordReach, lookIn};
 ghost use Rattle.gmch.specs.Mapped.{isEntry, entryNumber, mappedValue, tableWritten};
@@ -39,6 +41,8 @@ pub enum Effect {
 pub enum Rare {
     // A write of a fence or of a memory-mapped register: offset, value.
     Store(u32, u32),
+    // A write of a register of the display cache: offset, value.
+    StoreCache(u32, u32),
     // SMRAM's error bit is set.
     Error,
     // A cold start of a board of this kind.
@@ -51,9 +55,9 @@ pub struct Decided {
     pub effect: Effect,
 }
 
-// What the map goes by, read off the devices' bytes.
-pub fn map_of<'a>(b: Board, dev0: &'a [u8; 256], dev1: &'a [u8; 256]) -> Map
-    ensures { λ r. ⌜ r ≡ mapIn b (now (dev0 .entry)) (now (dev1 .entry)) ⌝ }
+// What the map goes by, read off the devices' bytes and 3000h.
+pub fn map_of<'a>(b: Board, dev0: &'a [u8; 256], dev1: &'a [u8; 256], drt: u32) -> Map
+    ensures { λ r. ⌜ r ≡ mapIn b (now (dev0 .entry)) (now (dev1 .entry)) drt ⌝ }
 {
     map::map_from(
         b,
@@ -63,6 +67,7 @@ pub fn map_of<'a>(b: Board, dev0: &'a [u8; 256], dev1: &'a [u8; 256]) -> Map
         dev1[0x13],
         dev1[0x16],
         dev1[0x17],
+        drt,
     )
 }
 
@@ -92,24 +97,28 @@ fn resolve(
     route: Route,
 ) -> Target
     requires { ⌜ Sized m (now table) (now memory) × InWindow route ⌝ }
-    ensures { λ r. ⌜ r ≡ resolved m (now (fences .entry)) control (lookIn m control (now (table .entry)) (lent (now (memory .entry)))) a route ⌝ }
+    ensures { λ r. ⌜ r ≡ resolved m (now (fences .entry)) control (lookIn m control (now (table .entry)) (now (memory .entry))) a route ⌝ }
 {
     match route {
         Route::To(t) => t,
         Route::Registers(o) => {
-            if mapped::misfit(o, a.width) {
+            if mapped::misfit(m.kind, o, a.width) {
                 return Target::Refused(10, 0);
             }
             if (2 <= m.kind) & mapped::is_entry(o) {
                 return entry_target(m, control, o);
+            }
+            if mapped::listed_byte(m.kind, o) {
+                return Target::CacheRegister(o);
             }
             Target::Mapped(o)
         }
         Route::Window(o) => {
             let all = *fences;
             match graphics::window(m, all, control, table, memory, o) {
-                Reach::At(p) => Target::Memory(p),
-                Reach::Denied(c, n) => Target::Refused(c, n),
+                Place::InMain(p) => Target::Memory(p),
+                Place::InCache(p) => Target::Cache(p),
+                Place::NoPlace(c, n) => Target::Refused(c, n),
             }
         }
     }
@@ -127,7 +136,7 @@ pub fn target_of(
     a: Access,
 ) -> Target
     requires { ⌜ Sized m (now table) (now memory) ⌝ }
-    ensures { λ t. ⌜ t ≡ targetIn m cf8 (now (fences .entry)) control (lookIn m control (now (table .entry)) (lent (now (memory .entry)))) kind a ⌝ }
+    ensures { λ t. ⌜ t ≡ targetIn m cf8 (now (fences .entry)) control (lookIn m control (now (table .entry)) (now (memory .entry))) kind a ⌝ }
 {
     if !records::fits_word(a.width, a.address) {
         return Target::Refused(2, 0);
@@ -154,7 +163,7 @@ pub fn done(t: Target, v: u32, e: Effect) -> Decided
     }
 }
 
-// At an address of memory: the value read.
+// At an address of main memory or of the display cache: the value read.
 fn in_memory(memory: &mut [u8], write: bool, width: u32, v: u32, p: u32) -> u32
     requires { ⌜ Width width × (p + width ≤ length (now memory)) ⌝ }
     ensures { λ r. ⌜ (r ≡ pick write 0 (loadLe width p (now (memory .entry)))) × (now (memory .exit) ≡ pick write (storeLe width p v (now (memory .entry))) (now (memory .entry))) ⌝ }
@@ -208,14 +217,16 @@ pub fn act<'a>(
     dev1: &'a [u8; 256],
     fences: &'a [u32; 8],
     regs: Regs,
+    dram: Dram,
     table: &mut [u32],
     memory: &mut [u8],
+    display: &mut [u8],
     a: Access,
     v: u32,
     t: Target,
 ) -> Decided
-    requires { ⌜ (length (now table) ≡ 16384) × Reachable (length (now memory)) (a .width) t ⌝ }
-    ensures { λ d. ⌜ Decides (stateOf cf8 (now (dev0 .entry)) (now (dev1 .entry)) (now (fences .entry)) regs) (now (table .exit)) (now (memory .exit)) d (λ s. act (machine s (now (table .entry)) (now (memory .entry))) a v t) ⌝ }
+    requires { ⌜ (length (now table) ≡ 16384) × Reachable (length (now memory)) (length (now display)) (a .width) t ⌝ }
+    ensures { λ d. ⌜ Decides (stateOf cf8 (now (dev0 .entry)) (now (dev1 .entry)) (now (fences .entry)) regs dram) (now (table .exit)) (now (memory .exit)) (now (display .exit)) d (λ s. act (machine s (now (table .entry)) (now (memory .entry)) (now (display .entry))) a v t) ⌝ }
 {
     let write = a.write;
     let width = a.width;
@@ -244,6 +255,17 @@ pub fn act<'a>(
         Target::Vga(_) => done(t, 0, Effect::Keep),
         Target::Entry(_, p) => {
             let x = in_memory(memory, write, 4, mapped::stored(v), p);
+            done(t, x, Effect::Keep)
+        }
+        Target::Cache(p) => {
+            let x = in_memory(display, write, width, v, p);
+            done(t, x, Effect::Keep)
+        }
+        Target::CacheRegister(o) => {
+            if write {
+                return done(t, 0, Effect::Rarely(Rare::StoreCache(o, v)));
+            }
+            let x = mapped::dram_value(dram, o);
             done(t, x, Effect::Keep)
         }
     }

@@ -1,4 +1,5 @@
 // Configuration space of document 01: cold start, the ports, reads and writes of registers.
+use gmch::Dram;
 use gmch::Regs;
 use gmch::State;
 use gmch::Target;
@@ -7,9 +8,27 @@ ghost use mathlib.Core.Logic.{_⊎_};
 ghost use Prim.Native.Nat.{_+_, _%_, _<_, _≤_};
 ghost use lib.Bits.{bitAnd};
 ghost use Rattle.gmch.specs.Config.{ours, portTarget, registerValue};
-ghost use Rattle.gmch.specs.Replay.{coldStart};
+ghost use Rattle.gmch.specs.Replay.{coldDram, coldStart};
 
 pub mod access;
+
+// The display cache's registers at a cold start. A board without one has none of them.
+fn cold_dram(board: u32) -> Dram
+    ensures { λ r. ⌜ r ≡ coldDram board ⌝ }
+{
+    if board % 2 == 1 {
+        return Dram {
+            drt: 0,
+            dramcl: 0x17,
+            dramch: 0x08,
+        };
+    }
+    Dram {
+        drt: 0,
+        dramcl: 0,
+        dramch: 0,
+    }
+}
 
 // The state at a cold start.
 pub fn cold_start(board: u32) -> State
@@ -36,6 +55,7 @@ pub fn cold_start(board: u32) -> State
         wrote2e: false,
         fences: fences,
         regs: regs,
+        dram: cold_dram(board),
     }
 }
 

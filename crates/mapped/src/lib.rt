@@ -1,4 +1,5 @@
 // The memory-mapped registers: the accesses that fit them, their values, what writes leave, and the interrupt line.
+use gmch::Dram;
 use gmch::Regs;
 use gmch::State;
 use words::within;
@@ -6,7 +7,7 @@ ghost use mathlib.Core.Path.{_≡_};
 ghost use mathlib.Core.Bool.{true};
 ghost use Prim.Native.Nat.{_<_};
 ghost use lib.ListN.{length};
-ghost use Rattle.gmch.specs.Mapped.{listedWord, listedHalf, misfit, isEntry, entryNumber, isFence, fenceNumber, regsValue, mappedValue, regsWritten, mappedWritten, stored, tableWritten, lineOf};
+ghost use Rattle.gmch.specs.Mapped.{listedWord, listedHalf, listedByte, misfit, isEntry, entryNumber, isFence, fenceNumber, regsValue, mappedValue, regsWritten, mappedWritten, stored, tableWritten, dramValue, dramWritten, lineOf};
 
 // ---- the list
 
@@ -54,9 +55,16 @@ fn listed_half(o: u32) -> bool
     within(0x20A0, 0x10, o) & (o % 4 < 2)
 }
 
+// `o` is in a register of one byte: DRT, DRAMCL or DRAMCH, which only a board with a display cache has.
+pub fn listed_byte(kind: u32, o: u32) -> bool
+    ensures { λ r. ⌜ r ≡ listedByte kind o ⌝ }
+{
+    (kind % 2 == 1) & within(0x3000, 3, o)
+}
+
 // Code 10: an access of `width` bytes at `o` touches a listed register without being exactly it.
-pub fn misfit(o: u32, width: u32) -> bool
-    ensures { λ r. ⌜ r ≡ misfit o width ⌝ }
+pub fn misfit(kind: u32, o: u32, width: u32) -> bool
+    ensures { λ r. ⌜ r ≡ misfit kind o width ⌝ }
 {
     if listed_word(o) {
         return !((o % 4 == 0) & (width == 4));
@@ -64,7 +72,7 @@ pub fn misfit(o: u32, width: u32) -> bool
     if listed_half(o) {
         return !((o % 4 == 0) & (width == 2));
     }
-    false
+    listed_byte(kind, o) & !(width == 1)
 }
 
 // ---- reads
@@ -176,6 +184,43 @@ pub fn table_written(table: &mut [u32], o: u32, v: u32)
 {
     if is_entry(o) {
         table[entry_number(o)] = stored(v);
+    }
+}
+
+// ---- the display cache's registers
+
+// What the register at `o` reads.
+pub fn dram_value(d: Dram, o: u32) -> u32
+    ensures { λ v. ⌜ v ≡ dramValue d o ⌝ }
+{
+    match o {
+        0x3000 => d.drt, // DRT
+        0x3001 => d.dramcl, // DRAMCL
+        _ => d.dramch, // DRAMCH
+    }
+}
+
+// The registers after `v` is written at `o`.
+pub fn dram_written(d: Dram, o: u32, v: u32) -> Dram
+    ensures { λ q. ⌜ q ≡ dramWritten d o v ⌝ }
+{
+    let mut q = d;
+    match o {
+        0x3000 => { // DRT: bit 0
+            q.drt = v % 2;
+            return q;
+        }
+        0x3001 => { // DRAMCL
+            q.dramcl = v % 256;
+            return q;
+        }
+        0x3002 => { // DRAMCH
+            q.dramch = v % 256;
+            return q;
+        }
+        _ => {
+            return q;
+        }
     }
 }
 

@@ -116,12 +116,14 @@ pub fn reply(t: Target, v: u32) -> Answer
     match t {
         Target::Refused(c, o) => answer(c, 0, o, v),
         Target::Memory(p) => answer(0, 1, p, v),
+        Target::Cache(p) => answer(0, 6, p, v),
         Target::Register(n) => answer(0, 2, n, v),
         Target::Hub(p) => answer(0, 3, p, v),
         Target::HubError(p) => answer(0, 3, p, v),
         Target::Vga(o) => answer(0, 4, o, v),
         Target::Mapped(o) => answer(0, 5, o, v),
         Target::Entry(o, _) => answer(0, 5, o, v),
+        Target::CacheRegister(o) => answer(0, 5, o, v),
     }
 }
 

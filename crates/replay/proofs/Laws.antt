@@ -43,15 +43,16 @@ module _ (b : Board) (x : Machine) (r : Record) where
       unfolding oneRecord
       an-access k = simp (e, ne-eqb (r .kind) 8 n, ne-eqb (r .kind) 9 k, choices)
 
--- a run, which changes head and identity alone, and leaves memory as it is
-pub run-done : (b : Board) (s : State) (table main : List ℕ) (budget : ℕ) (q : Ran)
-    → q ≡ run (fetchIn (mapOf b s) (s .regs .control) table) budget 0 (s .regs) (lent main) .ran
-    → out (withRegs s (withHead (s .regs) (q .regs .head) (q .regs .identity))) table main (runReply q) ≡ parserRun b (machine s table main) budget
+-- a run, which changes head and identity alone, and leaves the memories as they are
+pub run-done : (b : Board) (s : State) (table main cache : List ℕ) (budget : ℕ) (q : Ran)
+    → q ≡ run (fetchIn (mapOf b s) (s .regs .control) table) budget 0 (s .regs) (lent main cache) .ran
+    → out (withRegs s (withHead (s .regs) (q .regs .head) (q .regs .identity))) table main cache (runReply q) ≡ parserRun b (machine s table main cache) budget
 unfolding parserRun
-run-done b s table main budget q f =
-    let fetches = fetchFrom b (machine s table main) in
-    rw (f, run-memories fetches budget (s .regs) (lent main), ← run-keeps fetches budget (s .regs) (lent main)) refl
+run-done b s table main cache budget q f =
+    let fetches = fetchFrom b (machine s table main cache) in
+    rw (f, run-memories fetches budget (s .regs) (lent main cache), ← run-keeps fetches budget (s .regs) (lent main cache)) refl
 
-pub reset-done : (b : Board) (s : State) (table main : List ℕ) → out (coldStart (b .kind)) coldTable main resetReply ≡ reset b (machine s table main)
+pub reset-done : (b : Board) (s : State) (table main cache : List ℕ)
+    → out (coldStart (b .kind)) coldTable main cache resetReply ≡ reset b (machine s table main cache)
 unfolding reset coldMachine
-reset-done b s table main = refl
+reset-done b s table main cache = refl

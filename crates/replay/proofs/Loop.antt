@@ -67,13 +67,13 @@ module _ (b : Board) (records : List ℕ) where
       rw (k, e) refl
 
   -- the same turn, by what the loop's calls give
-  pub turn : (n i : ℕ) (s s′ : State) (table table′ main main′ answers answers′ : List ℕ) (r : Record) (d : Decided) (line : ℕ)
-      → i < n → r ≡ recordAt records i → carried s table′ main′ d ≡ oneRecord b (machine s table main) r
+  pub turn : (n i : ℕ) (s s′ : State) (table table′ main main′ cache cache′ answers answers′ : List ℕ) (r : Record) (d : Decided) (line : ℕ)
+      → i < n → r ≡ recordAt records i → carried s table′ main′ cache′ d ≡ oneRecord b (machine s table main cache) r
       → s′ ≡ applied s (d .effect) → line ≡ lineOf (s′ .regs) → answers′ ≡ sets answers (16 * i) (answerBytes (d .answer) line)
-      → replayFrom b records (n - (i + 1)) (i + 1) (machine s′ table′ main′) answers′ ≡ replayFrom b records (n - i) i (machine s table main) answers
+      → replayFrom b records (n - (i + 1)) (i + 1) (machine s′ table′ main′ cache′) answers′ ≡ replayFrom b records (n - i) i (machine s table main cache) answers
   unfolding answered
-  turn n i s s′ table table′ main main′ answers answers′ r d line h er ed es el ea =
-      rw (ea, el, es) (next-record n i (machine s table main) answers (carried s table′ main′ d) h (rw (← er) ed))
+  turn n i s s′ table table′ main main′ cache cache′ answers answers′ r d line h er ed es el ea =
+      rw (ea, el, es) (next-record n i (machine s table main cache) answers (carried s table′ main′ cache′ d) h (rw (← er) ed))
 
   -- all records done
   pub finished : (n i : ℕ) (x₀ x : Machine) (answers₀ answers : List ℕ) → n ≡ length records / 16 → 16 * n ≡ length answers₀ → n - i ≡ 0

@@ -1,11 +1,12 @@
 // One record of any content, and a list of records replayed.
-// A record is decided on the parts of the state, with table and memory lent; the state is changed in the loop, by an effect,
+// A record is decided on the parts of the state, with table and memories lent; the state is changed in the loop, by an effect,
 // so that an access that reaches memory never copies it.
 use access::Decided;
 use access::Effect;
 use access::Rare;
 use gmch::Answer;
 use gmch::Board;
+use gmch::Dram;
 use gmch::Map;
 use gmch::Ran;
 use gmch::Record;
@@ -16,8 +17,8 @@ ghost use mathlib.Core.Path.{_≡_};
 ghost use Prim.Native.Nat.{_%_};
 ghost use lib.ListN.{length};
 ghost use Rattle.gmch.specs.Smram.{smramError};
-ghost use Rattle.gmch.specs.Machine.{machine};
-ghost use Rattle.gmch.specs.Map.{Tom, Sized, mapIn};
+ghost use Rattle.gmch.specs.Machine.{cacheLength, machine};
+ghost use Rattle.gmch.specs.Map.{Tom, Sized, Cached, mapIn};
 ghost use Rattle.gmch.specs.Replay.{runReply, coldTable, oneRecord};
 ghost use Rattle.access.specs.Decide.{changed, stateOf, Decides};
 ghost use Rattle.replay.specs.Flat.{Replays};
@@ -37,6 +38,13 @@ pub fn apply(s: State, e: Rare) -> State
 {
     match e {
         Rare::Store(o, v) => mapped::written(s, o, v),
+        Rare::StoreCache(o, v) => {
+            let d = s.dram;
+            let q = mapped::dram_written(d, o, v);
+            let mut t = s;
+            t.dram = q;
+            t
+        }
         Rare::Error => {
             let mut t = s;
             t.dev0[0x70] = with_error(s.dev0[0x70]);
@@ -72,7 +80,7 @@ fn zero(table: &mut [u32])
     }
 }
 
-// Decides a record: its answer and its effect; table and memory are changed here. `replay` shows the lengths.
+// Decides a record: its answer and its effect; table and memories are changed here. `replay` shows the lengths.
 pub fn decide<'a>(
     b: Board,
     m: Map,
@@ -81,18 +89,20 @@ pub fn decide<'a>(
     dev1: &'a [u8; 256],
     fences: &'a [u32; 8],
     regs: Regs,
+    dram: Dram,
     table: &mut [u32],
     memory: &mut [u8],
+    display: &mut [u8],
     r: Record,
 ) -> Decided
-    requires { ⌜ (m ≡ mapIn b (now dev0) (now dev1)) × Sized m (now table) (now memory) ⌝ }
-    ensures { λ d. ⌜ Decides (stateOf cf8 (now (dev0 .entry)) (now (dev1 .entry)) (now (fences .entry)) regs) (now (table .exit)) (now (memory .exit)) d (λ s. oneRecord b (machine s (now (table .entry)) (now (memory .entry))) r) ⌝ }
+    requires { ⌜ (m ≡ mapIn b (now dev0) (now dev1) (dram .drt)) × Sized m (now table) (now memory) × Cached m (now display) ⌝ }
+    ensures { λ d. ⌜ Decides (stateOf cf8 (now (dev0 .entry)) (now (dev1 .entry)) (now (fences .entry)) regs dram) (now (table .exit)) (now (memory .exit)) (now (display .exit)) d (λ s. oneRecord b (machine s (now (table .entry)) (now (memory .entry)) (now (display .entry))) r) ⌝ }
 {
     if !records::well_formed(r) {
         return access::done(Target::Refused(13, 0), 0, Effect::Keep);
     }
     if r.kind == 8 {
-        let q = ring::run(m, table, memory, r.value, regs);
+        let q = ring::run(m, table, memory, display, r.value, regs);
         return Decided {
             answer: run_reply(q),
             effect: Effect::Ring(q.regs.head, q.regs.identity),
@@ -107,7 +117,20 @@ pub fn decide<'a>(
     }
     let a = records::access_of(r);
     let t = access::target_of(m, cf8, fences, regs.control, table, memory, r.kind, a);
-    access::act(cf8, dev0, dev1, fences, regs, table, memory, a, r.value, t)
+    access::act(
+        cf8,
+        dev0,
+        dev1,
+        fences,
+        regs,
+        dram,
+        table,
+        memory,
+        display,
+        a,
+        r.value,
+        t,
+    )
 }
 
 // ---- a list of records
@@ -120,19 +143,21 @@ pub fn replay(
     memory: &mut [u8],
     records: &[u8],
     answers: &mut [u8],
+    display: &mut [u8],
 ) -> State
-    requires { ⌜ Tom (b .tom) × (length (now table) ≡ 16384) × (length (now memory) ≡ b .tom) × (length (now records) % 16 ≡ 0) × (length (now answers) ≡ length (now records)) ⌝ }
-    ensures { λ s. ⌜ Replays b (machine start (now (table .entry)) (now (memory .entry))) (now (records .entry)) (machine s (now (table .exit)) (now (memory .exit))) (now (answers .exit)) ⌝ }
+    requires { ⌜ Tom (b .tom) × (length (now table) ≡ 16384) × (length (now memory) ≡ b .tom) × (length (now records) % 16 ≡ 0) × (length (now answers) ≡ length (now records)) × (length (now display) ≡ cacheLength (b .kind)) ⌝ }
+    ensures { λ s. ⌜ Replays b (machine start (now (table .entry)) (now (memory .entry)) (now (display .entry))) (now (records .entry)) (machine s (now (table .exit)) (now (memory .exit)) (now (display .exit))) (now (answers .exit)) ⌝ }
 {
     let n = records.len() / 16;
     let mut s = start;
     // Read off the state once, and again after each effect that may change it.
-    let mut m = access::map_of(b, &s.dev0, &s.dev1);
+    let mut m = access::map_of(b, &s.dev0, &s.dev1, s.dram.drt);
     let mut i = 0;
     while i < n {
         let at = 16 * i;
         let r = records::record_at(records, at);
         let regs = s.regs;
+        let dram = s.dram;
         let d = decide(
             b,
             m,
@@ -141,8 +166,10 @@ pub fn replay(
             &s.dev1,
             &s.fences,
             regs,
+            dram,
             table,
             memory,
+            display,
             r,
         );
         let e = d.effect;
@@ -167,11 +194,11 @@ pub fn replay(
                 }
                 s.wrote2c = s.wrote2c | wrote2c;
                 s.wrote2e = s.wrote2e | wrote2e;
-                m = access::map_of(b, &s.dev0, &s.dev1);
+                m = access::map_of(b, &s.dev0, &s.dev1, s.dram.drt);
             }
             Effect::Rarely(x) => {
                 s = apply(s, x);
-                m = access::map_of(b, &s.dev0, &s.dev1);
+                m = access::map_of(b, &s.dev0, &s.dev1, s.dram.drt);
             }
         }
         records::put_answer(answers, at, d.answer, mapped::line(s.regs));

@@ -1,7 +1,7 @@
 // The examples of document 01 that are not marked as proved, and the power states of request 3 of document 02: the proved
 // functions are run, and what they give is held to the file stdout. What needs main memory is replayed from the host instead.
 use gmch::Map;
-use gmch::Reach;
+use gmch::Place;
 use gmch::State;
 use gmch::Target;
 
@@ -64,13 +64,18 @@ fn entry(v: u32) {
         gmadr: 0x20000000,
         mmadr: 0x10000000,
         on: true,
+        cache: false,
     };
     match graphics::entry_reach(m, v, 0) {
-        Reach::At(p) => {
+        Place::InMain(p) => {
             text(b" reaches ");
             hex(p);
         }
-        Reach::Denied(c, _) => {
+        Place::InCache(p) => {
+            text(b" reaches the display cache at ");
+            hex(p);
+        }
+        Place::NoPlace(c, _) => {
             text(b" is refused with code ");
             io::print_decimal(1, c as u64);
         }
@@ -83,7 +88,7 @@ fn entry(v: u32) {
 fn call(length: usize) {
     text(b"a call with records of ");
     io::print_decimal(1, length as u64);
-    if desk::good_call(0, 0x800000, length, length) {
+    if desk::good_call(0, 0x800000, length, length, 0) {
         text(b" bytes: result 0\n");
     } else {
         text(b" bytes: result 1\n");

@@ -19,11 +19,17 @@ returns-2 c =
     rw (t .before .before .before .route2 .given .1, ← t .before .misfit .ensures, t .if1 .left, ← c .before .before .is-entry .ensures, c .before .if2 .taken)
     (c .entry-target .ensures)
 
-returns-4 : tie.Need-returns-4
+returns-3 : tie.Need-returns-3
 unfolding resolved pick _and_
-returns-4 c =
-    let t = c .before .before .before in
-    rw (t .before .before .before .route2 .given .1, ← t .before .misfit .ensures, t .if1 .left, ← c .before .is-entry .ensures, c .if2 .left)
+returns-3 c =
+    let t = c .before .before .before .before .before in
+    rw (t .before .before .before .route2 .given .1, ← t .before .misfit .ensures, t .if1 .left, ← c .before .before .before .is-entry .ensures, c .before .before .if2 .left, ← c .before .listed-byte .ensures, c .if3 .taken)
+
+returns-5 : tie.Need-returns-5
+unfolding resolved pick _and_
+returns-5 c =
+    let t = c .before .before .before .before .before in
+    rw (t .before .before .before .route2 .given .1, ← t .before .misfit .ensures, t .if1 .left, ← c .before .before .before .is-entry .ensures, c .before .before .if2 .left, ← c .before .listed-byte .ensures, c .if3 .left)
 
 pub resolve-spec : {M : Type 1} → statement M
 resolve-spec =
@@ -36,11 +42,15 @@ resolve-spec =
     (λ c κs. search needs)
     entry-target-requires
     returns-2
+    (λ c κs. search needs)
+    returns-3
     (λ c. search needs)
     (λ c κs. let s = c .before .before .before .before .before .before in (s .pre .0, rw (c .before .before .route3 .given .1) at (s .pre .1)))
     (λ c. search needs)
     (λ c. search needs)
+    (λ c. search needs)
     (λ c. unfold resolved in rw (c .before .route .given .1))
-    returns-4
+    returns-5
     (λ c. unfold resolved in rw (c .before .before .before .before .before .before .route3 .given .1, ← c .before .before .before .window .ensures, c .before .p .given .1))
+    (λ c. unfold resolved in rw (c .before .before .before .before .before .before .route3 .given .1, ← c .before .before .before .window .ensures, c .before .p2 .given .1))
     (λ c. unfold resolved in rw (c .before .before .before .before .before .before .route3 .given .1, ← c .before .before .before .window .ensures, c .before .c .given .1)))

@@ -9,4 +9,5 @@ cold-start-spec =
     (tie.spec
     (λ c κs. search needs)
     (λ c κs. search needs)
+    (λ c κs. search needs)
     (λ c. unfold coldStart coldRegs in cc))

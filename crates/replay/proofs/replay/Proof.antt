@@ -6,7 +6,7 @@ use native.Mathlib.Nat.{sub-zero}
 use native.Mathlib.Omega.{arith}
 use borrow.Author.Needs.{needs}
 use lib.ListN.{length}
-use Rattle.gmch.specs.Machine.{machine}
+use Rattle.gmch.specs.Machine.{cacheLength, machine}
 use Rattle.gmch.specs.Map.{mapOf}
 use Rattle.config.proofs.Stored.{stored-0, stored-1}
 use Rattle.replay.specs.Flat.{replayFrom}
@@ -16,36 +16,37 @@ use Rattle.replay.proofs.replay.Statement.{statement}
 use Rattle.replay.proofs.replay.Tie as tie
 
 abbrev Inv-loop : tie.InvT-loop
-Inv-loop b table₀ memory₀ records answers₀ n s₀ m₀ i₀ table memory answers s m i =
+Inv-loop b table₀ memory₀ records answers₀ display₀ n s₀ m₀ i₀ table memory answers display s m i =
     (i ≤ n) × (n ≡ length records / 16) × (length table ≡ 16384) × (length memory ≡ b .tom) × (length answers ≡ length records) × (m ≡ mapOf b s)
-    × (replayFrom b records (n - i) i (machine s table memory) answers ≡ replayFrom b records n 0 (machine s₀ table₀ memory₀) answers₀)
+    × (length display ≡ cacheLength (b .kind))
+    × (replayFrom b records (n - i) i (machine s table memory display) answers ≡ replayFrom b records n 0 (machine s₀ table₀ memory₀ display₀) answers₀)
 
 abbrev μ-loop : tie.MeasureT-loop
-μ-loop b table₀ memory₀ records answers₀ n s₀ m₀ i₀ table memory answers s m i = n - i
+μ-loop b table₀ memory₀ records answers₀ display₀ n s₀ m₀ i₀ table memory answers display s m i = n - i
 
 loop-holds : tie.Need-loop-holds Inv-loop μ-loop
 loop-holds c =
-    let z = c .before .before .before .before .before .before .before .before .pre in
-    (omega arith, refl, z .1, z .2, z .4, c .map-of .ensures, rw sub-zero refl)
+    let z = c .before .before .before .before .before .before .before .before .before .pre in
+    (omega arith, refl, z .1, z .2, z .4, c .map-of .ensures, z .5, rw sub-zero refl)
 
 decide-requires : tie.Need-decide-requires Inv-loop μ-loop
 decide-requires c κs =
-    let l = c .before .before .before .before .before .before .before .before .before .loop in
+    let l = c .before .before .before .before .before .before .before .before .before .before .before .loop in
     let h = l .inv in
-    ready _ (l .s) (l .table) (l .memory) _ (h .5) (c .before .before .before .before .before .before .before .before .before .before .before .before .before .before .before .before .before .before .pre .0) (h .2) (h .3)
+    ready _ (l .s) (l .table) (l .memory) (l .display) _ (h .5) (c .before .before .before .before .before .before .before .before .before .before .before .before .before .before .before .before .before .before .before .before .before .pre .0) (h .2) (h .3) (h .6)
 
 add-i : tie.Need-add-i Inv-loop μ-loop
 add-i c =
-    let t = c .before .before .before .before .before .before .before .before .before .before .before .before .before .before .before .before .before .before .before .before .loop-test in
-    let g = c .before .before .before .before .before .before .before .before .before .before .before .before .before .before .before .before .before .before .before .before .before .before .before .before .before .before .before .before .before .before .good in
-    let s = c .before .before .before .before .before .before .before .before .before .before .before .before .before .before .before .before .before .before .before .before .before .before .before .before .before .before .before .shared-slice-known in
+    let t = c .before .before .before .before .before .before .before .before .before .before .before .before .before .before .before .before .before .before .before .before .before .before .before .before .loop-test in
+    let g = c .before .before .before .before .before .before .before .before .before .before .before .before .before .before .before .before .before .before .before .before .before .before .before .before .before .before .before .before .before .before .before .before .before .before .before .good in
+    let s = c .before .before .before .before .before .before .before .before .before .before .before .before .before .before .before .before .before .before .before .before .before .before .before .before .before .before .before .before .before .before .before .before .shared-slice-known in
     omega arith
 
 loop-again : tie.Need-loop-again Inv-loop μ-loop
 loop-again c =
-    let l = c .before .before .before .before .before .before .before .before .before .before .before .before .before .before .before .before .before .before .before .before .before .loop in
+    let l = c .before .before .before .before .before .before .before .before .before .before .before .before .before .before .before .before .before .before .before .before .before .before .before .before .before .loop in
     let h = l .inv in
-    let d = c .before .before .before .before .before .before .before .before .before .before .before .decide in
+    let d = c .before .before .before .before .before .before .before .before .before .before .before .before .before .decide in
     let m = c .before .before .before .before .before .before .match in
     let p = c .before .before .put-answer in
     let x : Next _ (l .s) (d .result .effect) (m .s) (m .m) =
@@ -61,21 +62,22 @@ loop-again c =
     (λ v. rw (v .3) (stored-1 _ _ _ _ (u .1) _ (w .5 .ensures) _ _ _ _ (w .4 .ensures) (w .6 .ensures) (w .7 .ensures) (v .0 .left) (u .0) (v .2 .ensures)))
     (w .8 .came) ∙ configure-is _ _ _ _ _ e) (w .12 .ensures)) (λ w.
     next _ _ _ (w .8) (w .9) (w .3 .ensures ∙ rare-is _ _ _ (w .1 .given .1)) (w .7 .ensures)) k) k) k) (m .came) in
-    let t = c .before .before .before .before .before .before .before .before .before .before .before .before .before .before .before .before .before .before .before .before .loop-test in (
+    let t = c .before .before .before .before .before .before .before .before .before .before .before .before .before .before .before .before .before .before .before .before .before .before .before .before .loop-test in (
       omega arith,
       h .1,
-      d .kept .1 .1 .1 .1 .1 .1 .1 .0 ∙ h .2,
-      d .kept .1 .1 .1 .1 .1 .1 .1 .1 .0 ∙ h .3,
+      d .kept .1 .1 .1 .1 .1 .1 .1 .1 .0 ∙ h .2,
+      d .kept .1 .1 .1 .1 .1 .1 .1 .1 .1 .0 ∙ h .3,
       p .kept .0 ∙ h .4,
       x .map,
-      turn _ _ _ _ _ _ _ _ _ _ _ _ _ _ _ (t .taken) (c .before .before .before .before .before .before .before .before .before .before .before .before .before .before .before .before .before .before .before .record-at .ensures) (d .ensures .0 _ _) (x .state) (c .before .before .before .line .ensures) (p .ensures) ∙ h .6,
+      d .kept .1 .1 .1 .1 .1 .1 .1 .1 .1 .1 .0 ∙ h .6,
+      turn _ _ _ _ _ _ _ _ _ _ _ _ _ _ _ _ _ (t .taken) (c .before .before .before .before .before .before .before .before .before .before .before .before .before .before .before .before .before .before .before .before .before .before .before .record-at .ensures) (d .ensures .0 _ _) (x .state) (c .before .before .before .line .ensures) (p .ensures) ∙ h .7,
     )
 
 returns : tie.Need-returns Inv-loop μ-loop
 returns c =
     let h = c .before .loop .inv in
-    let q = c .before .before .before .before .before .before .before .before .before .before .pre in
-    finished _ _ _ _ _ _ _ _ (h .1) (omega arith) (omega arith) (h .6)
+    let q = c .before .before .before .before .before .before .before .before .before .before .before .pre in
+    finished _ _ _ _ _ _ _ _ (h .1) (omega arith) (omega arith) (h .7)
 
 pub replay-spec : {M : Type 1} → statement M
 replay-spec =
@@ -95,19 +97,20 @@ replay-spec =
     (λ c. search needs)
     (λ c κs. search needs)
     (λ c κs. search needs)
-    (λ c κs. let u = (rw (c .before .before .before .before .e3 .given .1) at (c .before .before .before .before .before .before .before .before .before .before .decide .ensures .1)) in omega arith)
-    (λ c κs. let u = (rw (c .before .before .before .before .before .e3 .given .1) at (c .before .before .before .before .before .before .before .before .before .before .before .decide .ensures .1)) in omega arith)
-    (λ c κs. let u = (rw (c .before .before .before .before .before .before .before .before .e3 .given .1) at (c .before .before .before .before .before .before .before .before .before .before .before .before .before .before .decide .ensures .1)) in omega arith)
-    (λ c κs. let u = (rw (c .before .before .before .before .before .before .before .before .e3 .given .1) at (c .before .before .before .before .before .before .before .before .before .before .before .before .before .before .decide .ensures .1)) in omega arith)
+    (λ c κs. let u = (rw (c .before .before .before .before .e3 .given .1) at (c .before .before .before .before .before .before .before .before .before .before .before .before .decide .ensures .1)) in omega arith)
+    (λ c κs. let u = (rw (c .before .before .before .before .before .e3 .given .1) at (c .before .before .before .before .before .before .before .before .before .before .before .before .before .decide .ensures .1)) in omega arith)
+    (λ c κs. let u = (rw (c .before .before .before .before .before .before .before .before .e3 .given .1) at (c .before .before .before .before .before .before .before .before .before .before .before .before .before .before .before .before .decide .ensures .1)) in omega arith)
+    (λ c κs. let u = (rw (c .before .before .before .before .before .before .before .before .e3 .given .1) at (c .before .before .before .before .before .before .before .before .before .before .before .before .before .before .before .before .decide .ensures .1)) in omega arith)
     (λ c κs. search needs)
     (λ c. search needs)
     (λ c κs. search needs)
     (λ c κs. search needs)
     (λ c κs. search needs)
-    (λ c κs. let t = c .before .before .before .before .before .before .before .before .before .before .before .before .before .before .before .before .before .loop-test in let h = c .before .before .before .before .before .before .before .before .before .before .before .before .before .before .before .before .before .before .loop .inv in omega arith)
+    (λ c κs. let t = c .before .before .before .before .before .before .before .before .before .before .before .before .before .before .before .before .before .before .before .before .before .loop-test in let h = c .before .before .before .before .before .before .before .before .before .before .before .before .before .before .before .before .before .before .before .before .before .before .loop .inv in omega arith)
     add-i
-    (λ c. let t = c .before .before .before .before .before .before .before .before .before .before .before .before .before .before .before .before .before .before .before .before .loop-test in let h = c .before .before .before .before .before .before .before .before .before .before .before .before .before .before .before .before .before .before .before .before .before .loop .inv in omega arith)
+    (λ c. let t = c .before .before .before .before .before .before .before .before .before .before .before .before .before .before .before .before .before .before .before .before .before .before .before .before .loop-test in let h = c .before .before .before .before .before .before .before .before .before .before .before .before .before .before .before .before .before .before .before .before .before .before .before .before .before .loop .inv in omega arith)
     loop-again
+    (λ c. omega arith)
     (λ c. omega arith)
     (λ c. omega arith)
     (λ c. omega arith)

@@ -1,0 +1,16 @@
+use borrow.Author.Needs.{needs}
+use Rattle.gmch.specs.Choice.{_and_}
+use Rattle.gmch.specs.Table.{ofCache, foreignReach}
+use Rattle.gmch.proofs.Choice.{tests}
+use Rattle.graphics.proofs.foreign_reach.Statement.{statement}
+use Rattle.graphics.proofs.foreign_reach.Tie as tie
+
+pub foreign-reach-spec : {M : Type 1} → statement M
+foreign-reach-spec =
+    tie.close
+    (tie.spec
+    (λ c. search needs)
+    (λ c. unfold foreignReach ofCache _and_ in search tests)
+    (λ c. search needs)
+    (λ c. unfold foreignReach ofCache _and_ in search tests)
+    (λ c. unfold foreignReach ofCache _and_ in search tests))
