@@ -9,8 +9,8 @@ pub foreign-reach-spec : {M : Type 1} → statement M
 foreign-reach-spec =
     tie.close
     (tie.spec
+    (λ c κs. search needs)
+    (λ c. unfold foreignReach ofCache _and_ in rw (← c .before .page-of .ensures) (search tests))
     (λ c. search needs)
-    (λ c. unfold foreignReach ofCache _and_ in search tests)
-    (λ c. search needs)
-    (λ c. unfold foreignReach ofCache _and_ in search tests)
+    (λ c. unfold foreignReach ofCache _and_ in rw (← c .before .page-of .ensures) (search tests))
     (λ c. unfold foreignReach ofCache _and_ in search tests))

@@ -53,7 +53,7 @@ load4-requires-2 c κs =
     let s = c .before .before .before .before .before .before .before .before .before .before in
     let q = translate-at _ _ _ _ (in-cache (c .before)) in
     let n = s .pre .1 .whole (q .0) in
-    omega (arith, n, q .1, q .2, s .pre .2)
+    omega (arith, n, q .1, q .2, s .pre)
 
 returns-3 : tie.Need-returns-3
 returns-3 c =
