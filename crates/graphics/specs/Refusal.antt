@@ -1,0 +1,20 @@
+-- An entry at an offset by the code that refuses it, as the code finds it.
+use Prim.Native.Nat.{ℕ, _+_, _%_}
+use mathlib.Core.Path.{_≡_}
+use lib.Dec.{eqb}
+use Rattle.gmch.specs.Choice.{pick}
+use Rattle.gmch.specs.Table.{pageOf, foreign, entryReach}
+use Rattle.gmch.specs.declared.Map.{Map}
+use Rattle.gmch.specs.declared.Place.{Place}
+use Rattle.gmch.specs.declared.Place.the-variants.{InMain, InCache, NoPlace}
+
+-- with no code, 0, it is its page in the memory of its type
+abbrev pub placed : ℕ → ℕ → ℕ → Place
+placed entry code o =
+    pick (eqb code 0)
+    (pick (foreign entry) (InCache (pageOf entry + o % 4096)) (InMain (pageOf entry + o % 4096)))
+    (NoPlace code o)
+
+-- the code is the one that refuses the entry, at every offset
+abbrev pub Refuses : Map → ℕ → ℕ → Type 0
+Refuses m entry code = (o : ℕ) → placed entry code o ≡ entryReach m entry o
