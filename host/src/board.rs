@@ -2,6 +2,16 @@
 
 use std::fmt;
 
+/// The length of a DC100 board's display cache: request 11 of document 02, "DC100 boards carry 4 MiB of their own."
+///
+/// ```
+/// use mitrophel::{Board, DISPLAY_BYTES};
+///
+/// assert_eq!(DISPLAY_BYTES, 4 << 20);
+/// assert_eq!(Board::Dc100.display_bytes(), DISPLAY_BYTES);
+/// ```
+pub const DISPLAY_BYTES: usize = 4 << 20;
+
 /// A board kind. The discriminant is the number that the call takes.
 ///
 /// ```
@@ -91,6 +101,21 @@ impl Board {
     #[inline]
     pub const fn table_in_memory(self) -> bool {
         matches!(self, Board::I82810Main | Board::Dc100Main)
+    }
+
+    /// The length of the display cache that the board is lent: request 11 of document 02, "The host lends a second
+    /// memory of 4 MiB for kinds 1 and 3, and of length 0 for the others".
+    ///
+    /// ```
+    /// # use mitrophel::Board;
+    /// assert_eq!(Board::ALL.map(Board::display_bytes), [0, 4 << 20, 0, 4 << 20]);
+    /// ```
+    #[inline]
+    pub const fn display_bytes(self) -> usize {
+        match self {
+            Board::Dc100 | Board::Dc100Main => DISPLAY_BYTES,
+            Board::I82810 | Board::I82810Main => 0,
+        }
     }
 }
 

@@ -10,7 +10,7 @@
 //!
 //! let mut memory = vec![0; 8 << 20];
 //! let records = [Record::io_write(0xCF8, 4, 0x8000_0000), Record::io_read(0xCFC, 4)];
-//! let answers = replay_records(Board::I82810, &mut memory, &records)?;
+//! let answers = replay_records(Board::I82810, &mut memory, &records, &mut [])?;
 //!
 //! assert_eq!(answers[1].refusal(), None);
 //! assert_eq!(answers[1].target(), Some(Target::Register));
@@ -43,14 +43,15 @@
 //! let desks = [7, 8].map(|data| {
 //!     thread::spawn(move || {
 //!         let records = [Record::write(0x1000, 4, data, false), Record::read(0x1000, 4, false)];
-//!         replay_records(Board::I82810, &mut vec![0; 8 << 20], &records).map(|answers| answers[1].value)
+//!         replay_records(Board::I82810, &mut vec![0; 8 << 20], &records, &mut []).map(|answers| answers[1].value)
 //!     })
 //! });
 //! assert_eq!(desks.map(|desk| desk.join().expect("no panic")), [Ok(7), Ok(8)]);
 //! ```
 //!
 //! A list has at most [`MAX_RECORDS`](record::MAX_RECORDS) records, and a memory is a multiple of 8 MiB
-//! from 8 to 1,024 MiB ([`is_memory_length`]). Within these bounds every byte string is a legal list: the
+//! from 8 to 1,024 MiB ([`is_memory_length`]). A DC100 has a display cache of 4 MiB beside it, which the call is
+//! lent too; for the other boards that argument is empty ([`Board::display_bytes`]). Within these bounds every byte string is a legal list: the
 //! call returns, answers each record, and reads and writes nothing outside what it was lent.
 //!
 //! # Where to go next
@@ -72,7 +73,7 @@ pub mod record;
 pub mod reference;
 pub mod trace;
 
-pub use board::Board;
+pub use board::{Board, DISPLAY_BYTES};
 pub use call::{is_memory_length, replay, replay_records, WrongArgument, MOST_MEMORY};
 pub use record::{Answer, Kind, Record, Refusal, Target};
 

@@ -23,8 +23,8 @@ pub const RECORD_BYTES: usize = 16;
 /// use mitrophel::{replay_records, Board, Record};
 ///
 /// let (mut memory, records) = (vec![0; 8 << 20], vec![Record::reset(); MAX_RECORDS + 1]);
-/// assert!(replay_records(Board::I82810, &mut memory, &records[1..]).is_ok());
-/// assert!(replay_records(Board::I82810, &mut memory, &records).is_err());
+/// assert!(replay_records(Board::I82810, &mut memory, &records[1..], &mut []).is_ok());
+/// assert!(replay_records(Board::I82810, &mut memory, &records, &mut []).is_err());
 /// ```
 pub const MAX_RECORDS: usize = 65_535;
 
@@ -361,10 +361,10 @@ impl fmt::Display for Record {
 /// use mitrophel::{replay_records, Board, Record, Target};
 ///
 /// let mut memory = vec![0; 8 << 20];
-/// let answers = replay_records(Board::I82810, &mut memory, &[Record::read(0xFFFF_0000, 4, false)])?;
+/// let answers = replay_records(Board::I82810, &mut memory, &[Record::read(0xFFFF_0000, 4, false)], &mut [])?;
 /// assert_eq!(answers[0].target(), Some(Target::Hub));
 /// assert_eq!(Target::Hub.number(), 3);
-/// assert_eq!(Target::ALL.map(Target::number), [0, 1, 2, 3, 4, 5]);
+/// assert_eq!(Target::ALL.map(Target::number), [0, 1, 2, 3, 4, 5, 6]);
 /// assert_eq!(Target::MemoryMapped.to_string(), "memory-mapped register");
 /// # Ok::<(), mitrophel::WrongArgument>(())
 /// ```
@@ -383,19 +383,28 @@ pub enum Target {
     Vga = 4,
     /// A memory-mapped register; the answer's address is its offset.
     MemoryMapped = 5,
+    /// The display cache of a DC100; the answer's address is the final one in it.
+    DisplayCache = 6,
 }
 
 impl Target {
     /// Every target, in the order of its number.
-    pub const ALL: [Target; 6] =
-        [Target::None, Target::Memory, Target::Register, Target::Hub, Target::Vga, Target::MemoryMapped];
+    pub const ALL: [Target; 7] = [
+        Target::None,
+        Target::Memory,
+        Target::Register,
+        Target::Hub,
+        Target::Vga,
+        Target::MemoryMapped,
+        Target::DisplayCache,
+    ];
 
     /// The target of an answer's byte 1, if it is one.
     ///
     /// ```
     /// # use mitrophel::Target;
     /// assert_eq!(Target::from_number(4), Some(Target::Vga));
-    /// assert_eq!(Target::from_number(6), None);
+    /// assert_eq!(Target::from_number(7), None);
     /// ```
     #[inline]
     pub const fn from_number(number: u8) -> Option<Target> {
@@ -406,6 +415,7 @@ impl Target {
             3 => Target::Hub,
             4 => Target::Vga,
             5 => Target::MemoryMapped,
+            6 => Target::DisplayCache,
             _ => return None,
         })
     }
@@ -426,6 +436,7 @@ impl fmt::Display for Target {
             Target::Hub => "hub",
             Target::Vga => "VGA",
             Target::MemoryMapped => "memory-mapped register",
+            Target::DisplayCache => "display cache",
         })
     }
 }
@@ -437,7 +448,7 @@ impl fmt::Display for Target {
 /// use mitrophel::{replay_records, Board, Record, Refusal};
 ///
 /// let mut memory = vec![0; 8 << 20];
-/// let answers = replay_records(Board::I82810, &mut memory, &[Record::read(0x1002, 4, false)])?;
+/// let answers = replay_records(Board::I82810, &mut memory, &[Record::read(0x1002, 4, false)], &mut [])?;
 /// assert_eq!(answers[0].refusal(), Some(Refusal::Width));
 /// assert_eq!(Refusal::Width.code(), 2);
 /// assert_eq!(Refusal::PageProtected.to_string(), "refused 6: entry's page is protected");
@@ -454,11 +465,12 @@ pub enum Refusal {
     TranslationOff = 3,
     /// Entry not valid.
     EntryNotValid = 4,
-    /// Entry type 01 or 10.
+    /// Entry type 10, or type 01 where there is no display cache or it is off.
     EntryType = 5,
     /// Entry's page protected. Also a table word in protected memory, where the table is in main memory.
     PageProtected = 6,
-    /// Entry's page at or above TOM. Also a table word at or above TOM, where the table is in main memory.
+    /// Entry's page at or above TOM or, with type 01, at or above 4 MiB. Also a table word at or above TOM, where the
+    /// table is in main memory.
     PageAboveMemory = 7,
     /// Parser address at or above the window size.
     OutsideWindow = 8,
@@ -533,7 +545,7 @@ impl Refusal {
     /// ```
     pub const fn reason(self) -> &'static str {
         match self {
-            Refusal::Arguments => "board kind, memory length, record length or answer length is wrong",
+            Refusal::Arguments => "board kind, memory length, record length, answer length or display length is wrong",
             Refusal::Width => "width is not 1, 2 or 4, or the access crosses an aligned 4-byte word",
             Refusal::TranslationOff => "translation is off",
             Refusal::EntryNotValid => "entry is not valid",
@@ -565,7 +577,7 @@ impl std::error::Error for Refusal {}
 ///
 /// let mut memory = vec![0; 8 << 20];
 /// memory[0x1000] = 0x12;
-/// let answers = replay_records(Board::I82810, &mut memory, &[Record::read(0x1000, 1, false)])?;
+/// let answers = replay_records(Board::I82810, &mut memory, &[Record::read(0x1000, 1, false)], &mut [])?;
 /// assert_eq!(answers[0], Answer { target: 1, address: 0x1000, value: 0x12, ..Answer::default() });
 /// assert_eq!(answers[0].to_string(), "memory at 1000h, value 12h");
 /// # Ok::<(), mitrophel::WrongArgument>(())
@@ -579,7 +591,7 @@ impl std::error::Error for Refusal {}
 /// let mut records = [(0x70, 0x40), (0x810, 0xC000_0000), (0x814, 0xF000_0000), (0x804, 2)].map(set).concat();
 /// records.push(Record::write(0xF000_2020, 4, 1, false)); // translation on
 /// records.push(Record::read(0xC001_2ABC, 4, false));
-/// let answers = replay_records(Board::I82810, &mut vec![0; 8 << 20], &records)?;
+/// let answers = replay_records(Board::I82810, &mut vec![0; 8 << 20], &records, &mut [])?;
 /// assert_eq!(answers[9], Answer { code: 4, address: 0x1_2ABC, ..Answer::default() });
 /// # Ok::<(), mitrophel::WrongArgument>(())
 /// ```
@@ -717,7 +729,7 @@ pub fn decode(bytes: &[u8]) -> impl ExactSizeIterator<Item = Record> + '_ {
 ///
 /// let records = record::encode(&[Record::run(1), Record::read(0, 4, false)]);
 /// let (mut memory, mut answers) = (vec![7; 8 << 20], vec![0; records.len()]);
-/// replay(Board::I82810, &mut memory, &records, &mut answers)?;
+/// replay(Board::I82810, &mut memory, &records, &mut answers, &mut [])?;
 /// let values: Vec<u32> = record::decode_answers(&answers).map(|answer| answer.value).collect();
 /// assert_eq!(values, [0, 0x0707_0707]);
 /// # Ok::<(), mitrophel::WrongArgument>(())
@@ -750,11 +762,11 @@ mod tests {
     fn every_number_names_its_kind_target_and_refusal() {
         for number in 0..=u8::MAX {
             assert_eq!(Kind::from_number(number).map(Kind::number), (1..=9).contains(&number).then_some(number));
-            assert_eq!(Target::from_number(number).map(Target::number), (number <= 5).then_some(number));
+            assert_eq!(Target::from_number(number).map(Target::number), (number <= 6).then_some(number));
             assert_eq!(Refusal::from_code(number).map(Refusal::code), (1..=13).contains(&number).then_some(number));
         }
         assert_eq!(Kind::ALL.map(Kind::number), [1, 2, 3, 4, 5, 6, 7, 8, 9]);
-        assert_eq!(Target::ALL.map(Target::number), [0, 1, 2, 3, 4, 5]);
+        assert_eq!(Target::ALL.map(Target::number), [0, 1, 2, 3, 4, 5, 6]);
         assert_eq!(Refusal::ALL.map(Refusal::code), [1, 2, 3, 4, 5, 6, 7, 8, 9, 10, 11, 12, 13]);
     }
 

@@ -49,7 +49,7 @@ pub const TABLE_WORDS: usize = 16_384;
 ///
 /// // 64 KiB: a small stack keeps it on the heap.
 /// let mut table: Box<Table> = Box::new([0; TABLE_WORDS]);
-/// assert!(Gmch::new(Board::I82810, &mut vec![0; 8 << 20], &mut table).is_some());
+/// assert!(Gmch::new(Board::I82810, &mut vec![0; 8 << 20], &mut table, &mut []).is_some());
 /// ```
 pub type Table = [u32; TABLE_WORDS];
 
@@ -63,12 +63,12 @@ pub type Table = [u32; TABLE_WORDS];
 ///
 /// let records = record::encode(&[Record::io_write(0xCF8, 4, 0x8000_0000), Record::io_read(0xCFC, 4)]);
 /// let [mut proved, mut beside] = [vec![0; records.len()], vec![0; records.len()]];
-/// assert_eq!(gmch_replay(0, &mut vec![0; 8 << 20], &records, &mut proved), 0);
-/// assert_eq!(reference::replay(0, &mut vec![0; 8 << 20], &records, &mut beside), 0);
+/// assert_eq!(gmch_replay(0, &mut vec![0; 8 << 20], &records, &mut proved, &mut []), 0);
+/// assert_eq!(reference::replay(0, &mut vec![0; 8 << 20], &records, &mut beside, &mut []), 0);
 /// assert_eq!(proved, beside);
 /// ```
-pub fn replay(board: u32, memory: &mut [u8], records: &[u8], answers: &mut [u8]) -> u32 {
-    replay_with(board, memory, records, answers, Unobserved, Faultless)
+pub fn replay(board: u32, memory: &mut [u8], records: &[u8], answers: &mut [u8], display: &mut [u8]) -> u32 {
+    replay_with(board, memory, records, answers, display, Unobserved, Faultless)
 }
 
 /// [`replay`] with an observer and faults.
@@ -81,9 +81,9 @@ pub fn replay(board: u32, memory: &mut [u8], records: &[u8], answers: &mut [u8])
 ///
 /// let records = record::encode(&[Record::read(0x1002, 1, false), Record::read(0x1001, 2, false)]);
 /// let [mut right, mut wrong] = [vec![0; records.len()], vec![0; records.len()]];
-/// replay(0, &mut vec![0; 8 << 20], &records, &mut right);
+/// replay(0, &mut vec![0; 8 << 20], &records, &mut right, &mut []);
 /// let fault = OneFault::new(Fault::NaturalAlignmentAsked);
-/// replay_with(0, &mut vec![0; 8 << 20], &records, &mut wrong, Unobserved, fault);
+/// replay_with(0, &mut vec![0; 8 << 20], &records, &mut wrong, &mut [], Unobserved, fault);
 /// assert_ne!(right, wrong);
 /// # }
 /// ```
@@ -93,6 +93,7 @@ pub fn replay_with<O: Observer, F: Faults>(
     memory: &mut [u8],
     records: &[u8],
     answers: &mut [u8],
+    display: &mut [u8],
     observer: O,
     faults: F,
 ) -> u32 {
@@ -103,7 +104,7 @@ pub fn replay_with<O: Observer, F: Faults>(
         return WRONG;
     }
     let mut table = [0; TABLE_WORDS];
-    let Some(mut hub) = Gmch::with_faults(board, memory, &mut table, observer, faults) else {
+    let Some(mut hub) = Gmch::with_faults(board, memory, &mut table, display, observer, faults) else {
         return WRONG;
     };
     for (record, answer) in list.iter().zip(answers.as_chunks_mut::<RECORD_BYTES>().0) {
@@ -127,6 +128,12 @@ fn top_of_memory(board: Board, bytes: usize, faults: &impl Faults) -> Option<u32
     let good = is_memory_length(bytes) && bytes <= most && !(between && faults.has(Fault::NothingBetween))
         || bytes == 1032 << 20 && faults.has(Fault::LargestMemory1032Mib);
     u32::try_from(bytes).ok().filter(|_| good)
+}
+
+/// Whether a board can be lent a display cache of this length. Request 11 of document 02: "The host lends a second
+/// memory of 4 MiB for kinds 1 and 3, and of length 0 for the others; else code 1."
+fn is_display_length(board: Board, bytes: usize, _faults: &impl Faults) -> bool {
+    bytes == board.display_bytes()
 }
 
 /// A read or write of 1, 2 or 4 bytes inside one aligned word.
@@ -171,7 +178,7 @@ impl From<Refusal> for Refused {
 /// use mitrophel::{Board, Record};
 ///
 /// let (mut memory, mut table) = (vec![0; 8 << 20], [0; TABLE_WORDS]);
-/// let mut gmch = Gmch::new(Board::I82810, &mut memory, &mut table).expect("8 MiB is a memory");
+/// let mut gmch = Gmch::new(Board::I82810, &mut memory, &mut table, &mut []).expect("8 MiB is a memory");
 /// gmch.answer(&Record::io_write(0xCF8, 4, 0x8000_0070));
 /// gmch.answer(&Record::io_write(0xCFC, 1, 0xBE));
 /// assert!(gmch.smram().locked() && gmch.protected(0xA_0000));
@@ -179,6 +186,8 @@ impl From<Refusal> for Refused {
 pub struct Gmch<'m, O = Unobserved, F = Faultless> {
     memory: &'m mut [u8],
     table: &'m mut Table,
+    /// The display cache; empty where the board has none.
+    display: &'m mut [u8],
     tom: u32,
     board: Board,
     /// CF8h
@@ -197,17 +206,18 @@ pub struct Gmch<'m, O = Unobserved, F = Faultless> {
 }
 
 impl<'m> Gmch<'m> {
-    /// The GMCH at cold start, which zeroes the table; none where the memory's length is wrong.
+    /// The GMCH at cold start, which zeroes the table; none where the length of memory or of the display cache is
+    /// wrong.
     ///
     /// ```
     /// use mitrophel::reference::{Gmch, TABLE_WORDS};
     /// use mitrophel::Board;
     ///
     /// let (mut memory, mut table) = (vec![0; 12 << 20], [0; TABLE_WORDS]);
-    /// assert!(Gmch::new(Board::I82810, &mut memory, &mut table).is_none());
+    /// assert!(Gmch::new(Board::I82810, &mut memory, &mut table, &mut []).is_none());
     /// ```
-    pub fn new(board: Board, memory: &'m mut [u8], table: &'m mut Table) -> Option<Self> {
-        Gmch::observed(board, memory, table, Unobserved)
+    pub fn new(board: Board, memory: &'m mut [u8], table: &'m mut Table, display: &'m mut [u8]) -> Option<Self> {
+        Gmch::observed(board, memory, table, display, Unobserved)
     }
 }
 
@@ -226,28 +236,46 @@ impl<'m, O: Observer> Gmch<'m, O> {
     ///     }
     /// }
     /// let (mut memory, mut table) = (vec![0; 8 << 20], [0; TABLE_WORDS]);
-    /// let mut gmch = Gmch::observed(Board::I82810, &mut memory, &mut table, Last::default()).expect("a memory");
+    /// let gmch = Gmch::observed(Board::I82810, &mut memory, &mut table, &mut [], Last::default());
+    /// let mut gmch = gmch.expect("a memory");
     /// gmch.answer(&Record::read(0x1000, 4, false));
     /// assert_eq!(gmch.observer().0, Some(Rule::Low));
     /// ```
-    pub fn observed(board: Board, memory: &'m mut [u8], table: &'m mut Table, observer: O) -> Option<Self> {
+    pub fn observed(
+        board: Board,
+        memory: &'m mut [u8],
+        table: &'m mut Table,
+        display: &'m mut [u8],
+        observer: O,
+    ) -> Option<Self> {
         table.fill(0);
-        Gmch::with_faults(board.number(), memory, table, observer, Faultless)
+        Gmch::with_faults(board.number(), memory, table, display, observer, Faultless)
     }
 }
 
 impl<'m, O: Observer, F: Faults> Gmch<'m, O, F> {
-    /// The GMCH at cold start, with faults; none where the board kind or the memory's length is wrong. The
-    /// table must be all zero, as it is at cold start.
+    /// The GMCH at cold start, with faults; none where the board kind or the length of one of its two memories is
+    /// wrong. The table must be all zero, as it is at cold start.
     ///
     /// "Board kind 0 is 82810, 1 is DC100." Request 10 of document 02: "Add board kinds 2 (82810) and 3 (DC100)".
     #[cfg_attr(not(feature = "faults"), doc(hidden))]
-    pub fn with_faults(board: u32, memory: &'m mut [u8], table: &'m mut Table, observer: O, faults: F) -> Option<Self> {
+    pub fn with_faults(
+        board: u32,
+        memory: &'m mut [u8],
+        table: &'m mut Table,
+        display: &'m mut [u8],
+        observer: O,
+        faults: F,
+    ) -> Option<Self> {
         let board = Board::from_number(board)?;
         let tom = top_of_memory(board, memory.len(), &faults)?;
+        if !is_display_length(board, display.len(), &faults) {
+            return None;
+        }
         let mut hub = Gmch {
             memory,
             table,
+            display,
             tom,
             board,
             config_address: 0,
@@ -314,7 +342,7 @@ impl<'m, O: Observer, F: Faults> Gmch<'m, O, F> {
     /// use mitrophel::{Board, Record, Refusal};
     ///
     /// let (mut memory, mut table) = (vec![0; 8 << 20], [0; TABLE_WORDS]);
-    /// let mut gmch = Gmch::new(Board::I82810, &mut memory, &mut table).expect("8 MiB is a memory");
+    /// let mut gmch = Gmch::new(Board::I82810, &mut memory, &mut table, &mut []).expect("8 MiB is a memory");
     /// gmch.answer(&Record::write(0x1000, 4, 7, false));
     /// assert_eq!(gmch.answer(&Record::read(0x1000, 4, false)).value, 7);
     /// assert_eq!(gmch.answer(&Record::default()).refusal(), Some(Refusal::Layout));
@@ -418,7 +446,7 @@ impl<'m, O: Observer, F: Faults> Gmch<'m, O, F> {
     /// # use mitrophel::reference::{Gmch, TABLE_WORDS};
     /// # use mitrophel::{Board, Record};
     /// # let (mut memory, mut table) = (vec![0; 8 << 20], [0; TABLE_WORDS]);
-    /// # let mut gmch = Gmch::new(Board::I82810, &mut memory, &mut table).expect("8 MiB is a memory");
+    /// # let mut gmch = Gmch::new(Board::I82810, &mut memory, &mut table, &mut []).expect("8 MiB is a memory");
     /// gmch.answer(&Record::io_write(0xCF8, 4, 0x8000_0073));
     /// assert_eq!(gmch.config_address(), 0x8000_0070);
     /// ```
@@ -434,7 +462,7 @@ impl<'m, O: Observer, F: Faults> Gmch<'m, O, F> {
     /// # use mitrophel::reference::{Gmch, TABLE_WORDS};
     /// # use mitrophel::{Board, Record};
     /// # let (mut memory, mut table) = (vec![0; 8 << 20], [0; TABLE_WORDS]);
-    /// # let mut gmch = Gmch::new(Board::I82810, &mut memory, &mut table).expect("8 MiB is a memory");
+    /// # let mut gmch = Gmch::new(Board::I82810, &mut memory, &mut table, &mut []).expect("8 MiB is a memory");
     /// # for (register, data) in [(0x70, 0x40), (0x814, 0xF000_0000), (0x804, 2)] {
     /// #     gmch.answer(&Record::io_write(0xCF8, 4, 0x8000_0000 | register));
     /// #     gmch.answer(&Record::io_write(0xCFC, 4, data));
@@ -454,7 +482,7 @@ impl<'m, O: Observer, F: Faults> Gmch<'m, O, F> {
     /// # use mitrophel::reference::{Gmch, TABLE_WORDS};
     /// # use mitrophel::{Board, Record};
     /// # let (mut memory, mut table) = (vec![0; 8 << 20], [0; TABLE_WORDS]);
-    /// # let mut gmch = Gmch::new(Board::I82810, &mut memory, &mut table).expect("8 MiB is a memory");
+    /// # let mut gmch = Gmch::new(Board::I82810, &mut memory, &mut table, &mut []).expect("8 MiB is a memory");
     /// # use mitrophel::reference::Fence;
     /// assert_eq!(gmch.fence(7), Some(Fence(0)));
     /// assert_eq!(gmch.fence(8), None);
@@ -469,7 +497,7 @@ impl<'m, O: Observer, F: Faults> Gmch<'m, O, F> {
     /// # use mitrophel::reference::{Gmch, TABLE_WORDS};
     /// # use mitrophel::{Board, Record};
     /// # let (mut memory, mut table) = (vec![0; 8 << 20], [0; TABLE_WORDS]);
-    /// # let mut gmch = Gmch::new(Board::I82810, &mut memory, &mut table).expect("8 MiB is a memory");
+    /// # let mut gmch = Gmch::new(Board::I82810, &mut memory, &mut table, &mut []).expect("8 MiB is a memory");
     /// assert_eq!(gmch.tom(), 8 << 20);
     /// ```
     #[inline]
@@ -483,12 +511,26 @@ impl<'m, O: Observer, F: Faults> Gmch<'m, O, F> {
     /// # use mitrophel::reference::{Gmch, TABLE_WORDS};
     /// # use mitrophel::{Board, Record};
     /// # let (mut memory, mut table) = (vec![0; 8 << 20], [0; TABLE_WORDS]);
-    /// # let mut gmch = Gmch::new(Board::I82810, &mut memory, &mut table).expect("8 MiB is a memory");
+    /// # let mut gmch = Gmch::new(Board::I82810, &mut memory, &mut table, &mut []).expect("8 MiB is a memory");
     /// assert_eq!(gmch.board(), Board::I82810);
     /// ```
     #[inline]
     pub fn board(&self) -> Board {
         self.board
+    }
+
+    /// The display cache lent; empty where the board has none.
+    ///
+    /// ```
+    /// # use mitrophel::reference::{Gmch, TABLE_WORDS};
+    /// # use mitrophel::Board;
+    /// let (mut memory, mut table, mut display) = (vec![0; 8 << 20], [0; TABLE_WORDS], vec![7; 4 << 20]);
+    /// let gmch = Gmch::new(Board::Dc100, &mut memory, &mut table, &mut display).expect("a DC100");
+    /// assert!(gmch.display() == [7; 4 << 20]);
+    /// ```
+    #[inline]
+    pub fn display(&self) -> &[u8] {
+        self.display
     }
 
     /// The memory lent.
@@ -497,7 +539,7 @@ impl<'m, O: Observer, F: Faults> Gmch<'m, O, F> {
     /// # use mitrophel::reference::{Gmch, TABLE_WORDS};
     /// # use mitrophel::{Board, Record};
     /// # let (mut memory, mut table) = (vec![0; 8 << 20], [0; TABLE_WORDS]);
-    /// # let mut gmch = Gmch::new(Board::I82810, &mut memory, &mut table).expect("8 MiB is a memory");
+    /// # let mut gmch = Gmch::new(Board::I82810, &mut memory, &mut table, &mut []).expect("8 MiB is a memory");
     /// gmch.answer(&Record::master_write(0x1000, 2, 0x1234));
     /// assert_eq!(gmch.memory()[0x1000..0x1002], [0x34, 0x12]);
     /// ```
@@ -520,7 +562,8 @@ impl<'m, O: Observer, F: Faults> Gmch<'m, O, F> {
     ///     }
     /// }
     /// let (mut memory, mut table) = (vec![0; 8 << 20], [0; TABLE_WORDS]);
-    /// let mut gmch = Gmch::observed(Board::I82810, &mut memory, &mut table, Touched::default()).expect("a memory");
+    /// let gmch = Gmch::observed(Board::I82810, &mut memory, &mut table, &mut [], Touched::default());
+    /// let mut gmch = gmch.expect("a memory");
     /// gmch.answer(&Record::read(0x1000, 4, false));
     /// assert_eq!(std::mem::take(gmch.observer()).0, 4);
     /// ```

@@ -23,7 +23,7 @@
 //!
 //! let assembled = trace::assemble("config read4 dev0.VID  #> 71208086h\n")?;
 //! let (mut memory, mut answers) = (vec![0; 8 << 20], vec![0; assembled.records.len()]);
-//! replay(Board::I82810, &mut memory, &assembled.records, &mut answers)?;
+//! replay(Board::I82810, &mut memory, &assembled.records, &mut answers, &mut [])?;
 //! let answers: Vec<_> = record::decode_answers(&answers).collect();
 //! let expected = &assembled.expectations[0];
 //! assert_eq!(expected.records, 0..2);

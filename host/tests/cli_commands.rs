@@ -200,7 +200,7 @@ fn a_long_list_is_replayed_in_calls_that_keep_its_meaning() {
     let answers: Vec<_> = record::decode_answers(&run.out).collect();
     assert_eq!(answers.len(), records.len());
     let (mut memory, mut table) = (vec![0; 8 << 20], [0; TABLE_WORDS]);
-    let mut hub = Gmch::new(Board::I82810, &mut memory, &mut table).expect("a board");
+    let mut hub = Gmch::new(Board::I82810, &mut memory, &mut table, &mut []).expect("a board");
     for (record, answer) in records.iter().zip(answers) {
         assert_eq!(answer, hub.answer(record));
     }

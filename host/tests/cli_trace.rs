@@ -11,7 +11,7 @@ use std::fs;
 fn answers(trace: &str) -> Vec<Answer> {
     let records = assemble(trace).unwrap_or_else(|errors| panic!("{errors}")).records;
     let (mut memory, mut answers) = (vec![0; 8 << 20], vec![0; records.len()]);
-    replay(Board::I82810, &mut memory, &records, &mut answers).expect("good arguments");
+    replay(Board::I82810, &mut memory, &records, &mut answers, &mut []).expect("good arguments");
     record::decode_answers(&answers).collect()
 }
 

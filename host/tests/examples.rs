@@ -18,10 +18,10 @@ fn the_whole_case_gives_its_answers() {
     ];
     let mut memory = vec![0; 8 * MIB];
     let mut answers = [0xFF; 32];
-    assert_eq!(call::gmch_replay(0, &mut memory, &records, &mut answers), 0);
+    assert_eq!(call::gmch_replay(0, &mut memory, &records, &mut answers, &mut []), 0);
     assert_eq!(answers, expected);
     answers.fill(0xFF);
-    assert_eq!(reference::replay(0, &mut memory, &records, &mut answers), 0);
+    assert_eq!(reference::replay(0, &mut memory, &records, &mut answers, &mut []), 0);
     assert_eq!(answers, expected);
     assert!(memory.iter().all(|&byte| byte == 0));
 }
@@ -136,7 +136,7 @@ fn a_ring_wraps_after_its_last_word() {
 #[test]
 fn zero_records_give_result_0() {
     let mut memory = vec![0xC3; 8 * MIB];
-    assert_eq!(call::gmch_replay(0, &mut memory, &[], &mut []), 0);
-    assert_eq!(reference::replay(0, &mut memory, &[], &mut []), 0);
+    assert_eq!(call::gmch_replay(0, &mut memory, &[], &mut [], &mut []), 0);
+    assert_eq!(reference::replay(0, &mut memory, &[], &mut [], &mut []), 0);
     assert!(memory.iter().all(|&byte| byte == 0xC3));
 }

@@ -8,8 +8,8 @@ mod common;
 use common::compare::{undo, Lists};
 use common::generate::LIST_MEMORY;
 use common::guarded::{ends_of_tables, Guarded, Side, FILL, PAGE};
-use common::{lists, seed};
-use mitrophel::{call, record, reference, Board};
+use common::{display, lists, seed};
+use mitrophel::{call, record, reference, Board, DISPLAY_BYTES};
 
 /// The most bytes of a random list, with room to spare.
 const MOST_BYTES: usize = 256 << 10;
@@ -28,6 +28,9 @@ fn the_call_stays_inside_each_buffer() {
     assert_eq!(memories.last().map(|memory| memory.room), Some(LIST_MEMORY));
     let mut records = Guarded::new(MOST_BYTES);
     let mut answers = Guarded::new(MOST_BYTES);
+    // The display cache is whole pages or, where a board has none, a place beside a page that cannot be touched.
+    let mut display = Guarded::new(DISPLAY_BYTES);
+    display.whole().copy_from_slice(&lists_of.pristine_display);
     for number in 0..lists(2_000).min(2_000) {
         let side = |bit: u64| if number >> bit & 1 == 0 { Side::After } else { Side::Before };
         let list = lists_of.make(number);
@@ -36,15 +39,17 @@ fn the_call_stays_inside_each_buffer() {
 
         records.part(length, side(0)).copy_from_slice(&list.records);
         let result = records.read_only(length, side(0), |lent| {
-            call::gmch_replay(list.board, memory.whole(), lent, answers.part(length, side(1)))
+            let answers = answers.part(length, side(1));
+            call::gmch_replay(list.board, memory.whole(), lent, answers, display.part(list.display, side(2)))
         });
         assert_eq!(result, 0);
 
-        let checked = lists_of.check(&list, answers.part(length, side(1)), memory.whole());
+        let checked = lists_of.check(&list, answers.part(length, side(1)), memory.whole(), display.whole());
         assert_eq!(checked, Ok(()));
         assert!(records.is_clean_beside(length, side(0)), "list {number}: bytes beside the records");
         assert!(answers.is_clean_beside(length, side(1)), "list {number}: bytes beside the answers");
         undo(memory.whole(), &lists_of.pristine, &list.writes);
+        undo(display.whole(), &lists_of.pristine_display, &list.display_writes);
         lists_of.restore(&list);
     }
 }
@@ -60,10 +65,11 @@ fn a_table_in_memory_stays_inside_memory() {
         let records = record::encode(&script.records);
         for board in Board::ALL.map(Board::number) {
             let (mut expected, mut expected_memory) = (vec![0; records.len()], vec![0; TOP as usize]);
-            assert_eq!(reference::replay(board, &mut expected_memory, &records, &mut expected), 0);
+            let mut lent = display(board);
+            assert_eq!(reference::replay(board, &mut expected_memory, &records, &mut expected, &mut lent), 0);
             memory.whole().fill(0);
             let mut answers = vec![0xA5; records.len()];
-            assert_eq!(call::gmch_replay(board, memory.whole(), &records, &mut answers), 0);
+            assert_eq!(call::gmch_replay(board, memory.whole(), &records, &mut answers, &mut display(board)), 0);
             assert!(answers == expected, "board kind {board}, table at {base:X}h: the answers differ");
             assert!(memory.whole() == expected_memory, "board kind {board}, table at {base:X}h: memory differs");
         }
@@ -94,6 +100,7 @@ fn a_refused_call_stays_inside_each_buffer() {
                 memory.part(memory_length, side),
                 records.part(records_length, side),
                 answers.part(answers_length, side),
+                &mut [],
             );
             assert_eq!(result, 1);
             assert!(records.is_clean_beside(records_length, side));
@@ -108,8 +115,8 @@ fn a_refused_call_stays_inside_each_buffer() {
 fn empty_buffers_are_not_followed() {
     let mut memory = Guarded::new(8 << 20);
     for board in Board::ALL.map(Board::number) {
-        assert!(call::gmch_replay(board, &mut [], &[], &mut []) == 1);
-        assert!(call::gmch_replay(board, memory.whole(), &[], &mut []) == 0);
+        assert!(call::gmch_replay(board, &mut [], &[], &mut [], &mut []) == 1);
+        assert!(call::gmch_replay(board, memory.whole(), &[], &mut [], &mut display(board)) == 0);
     }
     assert!(memory.whole().iter().all(|&byte| byte == FILL));
 }

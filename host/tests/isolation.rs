@@ -15,8 +15,8 @@ use std::time::Instant;
 fn two_runs_that_differ_in_protected_memory_cannot_be_told_apart() {
     let started = Instant::now();
     let trials = lists(2_000).min(2_000);
-    let outcome = two_runs(seed(), trials, |board, memory, records, answers| {
-        call::gmch_replay(board, memory, records, answers) == 0
+    let outcome = two_runs(seed(), trials, |board, memory, records, answers, display| {
+        call::gmch_replay(board, memory, records, answers, display) == 0
     });
     let tally = outcome.unwrap_or_else(|why| panic!("{why}"));
     println!("{tally:#?}");

@@ -4,7 +4,7 @@ mod common;
 
 use common::compare::{undo, List, Lists};
 use common::isolation::{two_runs, two_runs_on_zeros, Tally};
-use common::{seed, Watch, MIB};
+use common::{display, seed, Watch, MIB};
 use mitrophel::faults::{Fault, OneFault};
 use mitrophel::reference::{replay, replay_with, Unobserved};
 use mitrophel::{Board, MOST_MEMORY};
@@ -21,21 +21,24 @@ const LENGTHS: [usize; 6] =
     [512 * MIB, 520 * MIB, MOST_MEMORY - 8 * MIB, MOST_MEMORY, MOST_MEMORY + 1, MOST_MEMORY + 8 * MIB];
 
 /// Whether a replay with this fault differs from what is expected on this list.
-fn caught(lists: &Lists, list: &List, memory: &mut [u8], fault: Fault) -> bool {
+fn caught(lists: &Lists, list: &List, [memory, display]: [&mut [u8]; 2], fault: Fault) -> bool {
     let mut watch = Watch::default();
     let mut answers = vec![0; list.records.len()];
-    let memory_lent = &mut memory[..list.tom];
-    let result = replay_with(list.board, memory_lent, &list.records, &mut answers, &mut watch, OneFault::new(fault));
-    let caught = result != 0 || lists.check(list, &answers, memory).is_err();
+    let (memory_lent, display_lent) = (&mut memory[..list.tom], &mut display[..list.display]);
+    let (records, watching, fault) = (&list.records, &mut watch, OneFault::new(fault));
+    let result = replay_with(list.board, memory_lent, records, &mut answers, display_lent, watching, fault);
+    let caught = result != 0 || lists.check(list, &answers, memory, display).is_err();
     undo(memory, &lists.pristine, &watch.writes);
+    undo(display, &lists.pristine_display, &watch.display_writes);
     caught
 }
 
 /// Whether a replay with this fault has another result than the reference on a memory of this length.
 fn caught_by_length(memory: &mut [u8], fault: Fault) -> bool {
     Board::ALL.map(Board::number).into_iter().any(|board| {
-        let result = replay_with(board, memory, &[], &mut [], Unobserved, OneFault::new(fault));
-        result != replay(board, memory, &[], &mut [])
+        let display = &mut display(board);
+        let result = replay_with(board, memory, &[], &mut [], display, Unobserved, OneFault::new(fault));
+        result != replay(board, memory, &[], &mut [], display)
     })
 }
 
@@ -60,15 +63,18 @@ impl Noticed {
 #[test]
 fn every_wrong_reference_is_caught_by_the_random_comparison() {
     let seed = seed();
+    let mut lists = Lists::new(seed);
+    // The same for the lists of each memory.
+    let mut display = lists.pristine_display.clone();
     let mut faults: Vec<_> = Fault::ALL.iter().map(|&fault| Noticed { fault, first: None, times: 0 }).collect();
-    let on_list = |lists: &mut Lists, memory: &mut [u8], number: u64, faults: &mut [Noticed], name: &str| {
+    let mut on_list = |lists: &mut Lists, memory: &mut [u8], number: u64, faults: &mut [Noticed], name: &str| {
         let list = lists.make(number);
         for noticed in faults {
-            noticed.note(caught(lists, &list, memory, noticed.fault), || format!("{name} {number}"));
+            let lent = [&mut *memory, &mut display];
+            noticed.note(caught(lists, &list, lent, noticed.fault), || format!("{name} {number}"));
         }
         lists.restore(&list);
     };
-    let mut lists = Lists::new(seed);
     let mut memory = lists.pristine.clone();
     for number in 0..LISTS {
         on_list(&mut lists, &mut memory, number, &mut faults, "list");
@@ -129,12 +135,12 @@ fn every_leak_is_caught_by_the_two_runs() {
     }
 }
 
-type Replay<'a> = &'a dyn Fn(u32, &mut [u8], &[u8], &mut [u8]) -> bool;
+type Replay<'a> = &'a dyn Fn(u32, &mut [u8], &[u8], &mut [u8], &mut [u8]) -> bool;
 
 /// Asks that the trials of the reference with this fault end in a violation.
 fn assert_leaks(fault: Fault, trials: impl FnOnce(Replay) -> Result<Tally, String>) {
-    let outcome = trials(&|board, memory, records, answers| {
-        replay_with(board, memory, records, answers, Unobserved, OneFault::new(fault)) == 0
+    let outcome = trials(&|board, memory, records, answers, display| {
+        replay_with(board, memory, records, answers, display, Unobserved, OneFault::new(fault)) == 0
     });
     match outcome {
         Err(why) => println!("{fault:?}: {}", why.lines().next().unwrap_or_default()),

@@ -6,10 +6,10 @@
 
 mod common;
 
-use common::compare::{range, Lists};
+use common::compare::{range, undo, Lists};
 use common::guarded::{ends_of_tables, Guarded, Side, PAGE};
 use common::isolation::two_runs_on_zeros;
-use common::{lists, ran, reached, refused, refused_at, seed, Coverage, Script, Watch, MIB};
+use common::{display, lists, ran, reached, refused, refused_at, seed, Coverage, Script, Watch, MIB};
 use mitrophel::faults::Faultless;
 use mitrophel::reference::{self, replay_with, Touch};
 use mitrophel::{call, record, replay, Answer, Board, Record, Target, WrongArgument, MOST_MEMORY};
@@ -64,11 +64,13 @@ impl Memories {
         let mut expected = vec![0xA5; records.len()];
         let mut watch = Watch::default();
         let memory = &mut self.expected[..tom];
-        assert_eq!(replay_with(board, memory, &records, &mut expected, &mut watch, Faultless), 0);
+        let (mut display_lent, watching) = (display(board), &mut watch);
+        let result = replay_with(board, memory, &records, &mut expected, &mut display_lent, watching, Faultless);
+        assert_eq!(result, 0);
         for side in SIDES {
             let mut actual = vec![0x5A; records.len()];
             let lent = self.lent.part(tom, side);
-            assert_eq!(call::gmch_replay(board, lent, &records, &mut actual), 0);
+            assert_eq!(call::gmch_replay(board, lent, &records, &mut actual, &mut display(board)), 0);
             let pairs = record::decode_answers(&expected).zip(record::decode_answers(&actual));
             for (record, (expected, actual)) in script.records.iter().zip(pairs) {
                 assert_eq!(actual, expected, "board {board}, {record}");
@@ -645,8 +647,9 @@ fn assert_refused(memory: &mut [u8]) {
     }
     for board in ALL {
         let mut answers = vec![0xC3; records.len()];
-        assert_eq!(call::gmch_replay(board, memory, &records, &mut answers), 1, "{length} bytes");
-        assert_eq!(reference::replay(board, memory, &records, &mut answers), 1, "{length} bytes");
+        let display = &mut display(board);
+        assert_eq!(call::gmch_replay(board, memory, &records, &mut answers, display), 1, "{length} bytes");
+        assert_eq!(reference::replay(board, memory, &records, &mut answers, display), 1, "{length} bytes");
         assert!(answers.iter().all(|&byte| byte == 0xC3), "{length} bytes: answers were touched");
     }
     for mark in &marks {
@@ -683,7 +686,7 @@ fn lengths_just_above_1_gib_are_refused() {
                 assert_refused(memories.lent.part(length, side));
             }
         }
-        let wrong = replay(Board::I82810, memories.lent.part(ROOM, Side::After), &[], &mut []);
+        let wrong = replay(Board::I82810, memories.lent.part(ROOM, Side::After), &[], &mut [], &mut []);
         assert_eq!(wrong, Err(WrongArgument::Memory { bytes: 1_082_130_432 }));
         let words = "memory: expected a multiple of 8 MiB from 8 to 1,024 MiB, found 1082130432 bytes";
         assert_eq!(wrong.map_err(|wrong| wrong.to_string()), Err(words.to_string()));
@@ -729,16 +732,19 @@ fn call_and_reference_agree_on_memories_from_520_to_1016_mib() {
 
 fn agree_on_random_lists(tom: usize, count: u64, coverage: &mut Coverage) {
     let mut lists_of = Lists::on_zeros(seed(), tom);
+    let mut display = lists_of.pristine_display.clone();
     on_memories(|memories| {
         for number in 0..count {
             let list = lists_of.make(number);
             let mut answers = vec![0xA5; list.records.len()];
             let lent = memories.lent.part(tom, SIDES[number as usize % 2]);
-            assert_eq!(call::gmch_replay(list.board, lent, &list.records, &mut answers), 0);
-            if let Err(why) = lists_of.check(&list, &answers, lent) {
+            let display_lent = &mut display[..list.display];
+            assert_eq!(call::gmch_replay(list.board, lent, &list.records, &mut answers, display_lent), 0);
+            if let Err(why) = lists_of.check(&list, &answers, lent, &display) {
                 panic!("{why}");
             }
             clear(lent, &list.writes);
+            undo(&mut display, &lists_of.pristine_display, &list.display_writes);
             lists_of.restore(&list);
             coverage.add(&list.coverage);
         }
@@ -748,9 +754,10 @@ fn agree_on_random_lists(tom: usize, count: u64, coverage: &mut Coverage) {
 /// Demand 3 on 1 GiB: two runs with other keys in its TSEG cannot be told apart. Each trial compares all of memory.
 #[test]
 fn two_runs_on_1_gib_cannot_be_told_apart() {
-    let outcome = two_runs_on_zeros(seed(), MOST_MEMORY, lists(20_000).min(24), |board, memory, records, answers| {
-        call::gmch_replay(board, memory, records, answers) == 0
-    });
+    let outcome =
+        two_runs_on_zeros(seed(), MOST_MEMORY, lists(20_000).min(24), |board, memory, records, answers, display| {
+            call::gmch_replay(board, memory, records, answers, display) == 0
+        });
     let tally = outcome.unwrap_or_else(|why| panic!("{why}"));
     println!("{tally:#?}");
     assert!(tally.differing_bytes > 0 && tally.different_values > 0 && tally.protected_pages > 0);

@@ -236,6 +236,8 @@ impl Bench {
         let records = record::encode(&load.records);
         // Both are copies: fresh zeros are all one page until they are written, and reading them cools no cache.
         let (mut memory, mut other) = (pristine.clone(), pristine.clone());
+        let (mut display, mut other_display) =
+            (vec![0; load.board.display_bytes()], vec![0; load.board.display_bytes()]);
         let mut answers = vec![0; records.len()];
         let mut other_answers = answers.clone();
         let mut best = (Duration::MAX, Duration::MAX);
@@ -243,12 +245,12 @@ impl Bench {
         for round in 0..=10 * self.rounds {
             self.prepare(caches, &memory);
             let started = Instant::now();
-            assert_eq!(call::gmch_replay(board, &mut memory, &records, &mut answers), 0);
+            assert_eq!(call::gmch_replay(board, &mut memory, &records, &mut answers, &mut display), 0);
             let proved = started.elapsed();
 
             self.prepare(caches, &other);
             let started = Instant::now();
-            let result = reference::replay(board, &mut other, &records, &mut other_answers);
+            let result = reference::replay(board, &mut other, &records, &mut other_answers, &mut other_display);
             let plain = started.elapsed();
 
             assert_eq!(result, 0);
@@ -289,10 +291,10 @@ fn units(load: &Load) -> u64 {
         "call" => return 1,
         _ => {}
     }
-    let mut memory = (load.memory)(&mut Random(1));
+    let (mut memory, mut display) = ((load.memory)(&mut Random(1)), vec![0; load.board.display_bytes()]);
     let records = record::encode(&load.records);
     let mut answers = vec![0; records.len()];
-    reference::replay(load.board.number(), &mut memory, &records, &mut answers);
+    reference::replay(load.board.number(), &mut memory, &records, &mut answers, &mut display);
     let runs = load.records.iter().zip(record::decode_answers(&answers));
     runs.filter(|(record, _)| record.kind() == Some(Kind::Run)).map(|(_, answer)| u64::from(answer.count)).sum()
 }

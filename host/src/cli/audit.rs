@@ -265,7 +265,7 @@ fn leaves_out(failure: &Failure) -> bool {
 
 /// What replays: the proved call alone, or with the reference beside it.
 enum Engine {
-    Alone { call: Call, board: Board, memory: Vec<u8> },
+    Alone { call: Call, board: Board, memory: Vec<u8>, display: Vec<u8> },
     Compared(Pair),
 }
 
@@ -277,16 +277,21 @@ impl Engine {
                 let memories = [audit.memory.fresh(), audit.memory.fresh()];
                 Engine::Compared(Pair::by(audit.board, memories, audit.call).without_values())
             }
-            false => Engine::Alone { call: audit.call, board: audit.board, memory: audit.memory.fresh() },
+            false => Engine::Alone {
+                call: audit.call,
+                board: audit.board,
+                memory: audit.memory.fresh(),
+                display: vec![0; audit.board.display_bytes()],
+            },
         }
     }
 
     fn replay(&mut self, records: &[u8]) -> Result<Vec<u8>, Failure> {
         match self {
             Engine::Compared(pair) => pair.replay(records, |_| Ok(())),
-            Engine::Alone { call, board, memory } => {
+            Engine::Alone { call, board, memory, display } => {
                 let mut answers = vec![0; records.len()];
-                match call(board.number(), memory, records, &mut answers) {
+                match call(board.number(), memory, records, &mut answers, display) {
                     0 => Ok(answers),
                     code => Err(Failure::disagreement(format!("the call refused good arguments with {code}"))),
                 }
@@ -627,9 +632,9 @@ mod tests {
     }
 
     /// A call that takes one board alone.
-    fn only_dc100(board: u32, memory: &mut [u8], records: &[u8], answers: &mut [u8]) -> u32 {
+    fn only_dc100(board: u32, memory: &mut [u8], records: &[u8], answers: &mut [u8], display: &mut [u8]) -> u32 {
         match Board::from_number(board) {
-            Some(Board::Dc100) => gmch_replay(board, memory, records, answers),
+            Some(Board::Dc100) => gmch_replay(board, memory, records, answers, display),
             _ => 1,
         }
     }

@@ -343,7 +343,7 @@ mod tests {
         let runs = keys.each_ref().map(|key| {
             let mut run = Run::of(&machine(&memory, gmch_replay), &list, &scope, key).expect("the two agree");
             let mut answers = vec![0; list.records.len()];
-            assert_eq!(leaking(0, &mut run.memory, &list.records, &mut answers), 0);
+            assert_eq!(leaking(0, &mut run.memory, &list.records, &mut answers, &mut []), 0);
             run.answers = record::decode_answers(&answers).collect();
             run
         });

@@ -117,7 +117,7 @@ impl Replay {
     fn of(records: Vec<Record>, call: Call) -> Result<Replay, Failure> {
         let bytes = record::encode(&records);
         let (mut memory, mut answers) = (vec![0; MEMORY], vec![0; bytes.len()]);
-        match call(BOARD.number(), &mut memory, &bytes, &mut answers) {
+        match call(BOARD.number(), &mut memory, &bytes, &mut answers, &mut vec![0; BOARD.display_bytes()]) {
             0 => Ok(Replay { records, answers: record::decode_answers(&answers).collect(), memory }),
             code => Err(Failure::disagreement(format!("the proved call refused good arguments with {code}"))),
         }
@@ -347,23 +347,23 @@ mod tests {
     }
 
     /// Counts a step less in the sample's last run, the last record but one, if the key is another one.
-    fn telling_answers(board: u32, memory: &mut [u8], records: &[u8], answers: &mut [u8]) -> u32 {
-        let result = gmch_replay(board, memory, records, answers);
+    fn telling_answers(board: u32, memory: &mut [u8], records: &[u8], answers: &mut [u8], display: &mut [u8]) -> u32 {
+        let result = gmch_replay(board, memory, records, answers, display);
         let count = answers.len() - 2 * record::RECORD_BYTES + 12;
         answers[count] -= u8::from(!is_first_key(memory));
         result
     }
 
     /// Leaves another byte of ordinary memory if the key is another one.
-    fn telling_memory(board: u32, memory: &mut [u8], records: &[u8], answers: &mut [u8]) -> u32 {
-        let result = gmch_replay(board, memory, records, answers);
+    fn telling_memory(board: u32, memory: &mut [u8], records: &[u8], answers: &mut [u8], display: &mut [u8]) -> u32 {
+        let result = gmch_replay(board, memory, records, answers, display);
         memory[0x30_0004] = u8::from(!is_first_key(memory));
         result
     }
 
     /// Spoils the key in protected memory if it is another one, which only the reference can see.
-    fn spoiling(board: u32, memory: &mut [u8], records: &[u8], answers: &mut [u8]) -> u32 {
-        let result = gmch_replay(board, memory, records, answers);
+    fn spoiling(board: u32, memory: &mut [u8], records: &[u8], answers: &mut [u8], display: &mut [u8]) -> u32 {
+        let result = gmch_replay(board, memory, records, answers, display);
         memory[0xA_0000] ^= u8::from(!is_first_key(memory));
         result
     }

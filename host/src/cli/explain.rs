@@ -293,7 +293,7 @@ impl Code {
         let code = self.refusal.code();
         let mut text = match self.examples {
             [] => "Example, in C: 4096 bytes are no board's memory.\n\
-                   gmch_replay(0, memory, 4096, records, 16, answers, 16)\n"
+                   gmch_replay(0, memory, 4096, records, 16, answers, 16, NULL, 0)\n"
                 .to_string(),
             _ => format!("Example, for a shell: the last access is refused {code}.\n"),
         };
@@ -320,8 +320,10 @@ mod tests {
     fn check(refusal: Refusal, example: &Example, call: Call) {
         let Example { board, start, own } = example;
         let records = trace::assemble(&format!("{start}{own}")).expect("a good trace").records;
-        let mut answers = vec![0; records.len()];
-        assert_eq!(call(board.number(), &mut vec![0; 8 << 20], &records, &mut answers), 0, "{refusal}, board {board}");
+        let (mut memory, mut answers) = (vec![0; 8 << 20], vec![0; records.len()]);
+        let mut display = vec![0; board.display_bytes()];
+        let result = call(board.number(), &mut memory, &records, &mut answers, &mut display);
+        assert_eq!(result, 0, "{refusal}, board {board}");
         let mut codes: Vec<u8> = record::decode_answers(&answers).map(|answer| answer.code).collect();
         assert_eq!(codes.pop(), Some(refusal.code()));
         assert!(codes.iter().all(|code| *code == 0), "{refusal}, board {board}");
@@ -334,7 +336,7 @@ mod tests {
             code.examples.iter().for_each(|example| check(refusal, example, gmch_replay));
             assert_eq!(code.examples.is_empty(), refusal == Refusal::Arguments);
         }
-        assert_eq!(gmch_replay(0, &mut [0; 4096], &[0; 16], &mut [0; 16]), 1);
+        assert_eq!(gmch_replay(0, &mut [0; 4096], &[0; 16], &mut [0; 16], &mut []), 1);
     }
 
     /// By the reference.

@@ -14,7 +14,7 @@ use mitrophel::{Answer, Board, Kind, Record, Refusal, Target};
 use std::ops::Range;
 
 /// The proved call, or what a test puts in its place.
-pub type Call = fn(u32, &mut [u8], &[u8], &mut [u8]) -> u32;
+pub type Call = fn(u32, &mut [u8], &[u8], &mut [u8], &mut [u8]) -> u32;
 
 /// What the reference did with the last record.
 #[derive(Default)]
@@ -86,6 +86,8 @@ pub struct Pair {
     call: Call,
     proved: Vec<u8>,
     beside: Vec<u8>,
+    /// The display cache of each, all zero at the start.
+    displays: [Vec<u8>; 2],
     /// A disagreement is told without values.
     hidden: bool,
     /// Memory whose values are never for everybody.
@@ -101,7 +103,8 @@ impl Pair {
     /// The same, with this call in the proved one's place.
     pub fn by(board: Board, memory: [Vec<u8>; 2], call: Call) -> Pair {
         let [proved, beside] = memory;
-        Pair { board, call, proved, beside, hidden: false, guarded: Vec::new() }
+        let displays = [vec![0; board.display_bytes()], vec![0; board.display_bytes()]];
+        Pair { board, call, proved, beside, displays, hidden: false, guarded: Vec::new() }
     }
 
     /// The same, but a disagreement is told without values, any of which may be a key's.
@@ -152,12 +155,13 @@ impl Pair {
         E: FnMut(&Step<'_, '_>) -> Result<(), Failure>,
     {
         let mut answers = vec![0; records.len()];
-        match (self.call)(self.board.number(), &mut self.proved, records, &mut answers) {
+        let [display, display_beside] = &mut self.displays;
+        match (self.call)(self.board.number(), &mut self.proved, records, &mut answers, display) {
             0 => {}
             code => return Err(Failure::disagreement(format!("the proved call refused good arguments with {code}"))),
         }
         let mut table = Box::new([0; TABLE_WORDS]);
-        let mut hub = Gmch::observed(self.board, &mut self.beside, &mut table, Heard::default())
+        let mut hub = Gmch::observed(self.board, &mut self.beside, &mut table, display_beside, Heard::default())
             .ok_or_else(|| Failure::disagreement("the reference refuses a board that the proved call takes"))?;
         for (index, (record, answer)) in record::decode(records).zip(record::decode_answers(&answers)).enumerate() {
             let bases = Bases::of(&hub);
@@ -191,12 +195,14 @@ impl Pair {
     }
 
     fn compare_memory(&self) -> Result<(), Failure> {
-        if self.proved == self.beside {
+        let [display, display_beside] = &self.displays;
+        let memories = [("memory", &self.proved, &self.beside), ("the display cache", display, display_beside)];
+        let Some((name, proved, beside)) = memories.into_iter().find(|(_, proved, beside)| proved != beside) else {
             return Ok(());
-        }
-        let at = self.proved.iter().zip(&self.beside).position(|(proved, beside)| proved != beside).unwrap_or_default();
+        };
+        let at = proved.iter().zip(beside).position(|(proved, beside)| proved != beside).unwrap_or_default();
         // The bytes may be the key's, and the message is to be sent to somebody.
-        Err(Failure::disagreement(format!("{LOUD} about memory: byte {at:X}h differs\n{ADVICE}")))
+        Err(Failure::disagreement(format!("{LOUD} about {name}: byte {at:X}h differs\n{ADVICE}")))
     }
 }
 
@@ -323,8 +329,15 @@ pub mod wrong {
     macro_rules! calls {
         ($($(#[doc = $doc:literal])* $name:ident: $fault:ident,)*) => {
             $($(#[doc = $doc])*
-            pub fn $name(board: u32, memory: &mut [u8], records: &[u8], answers: &mut [u8]) -> u32 {
-                reference::replay_with(board, memory, records, answers, Unobserved, OneFault::new(Fault::$fault))
+            pub fn $name(
+                board: u32,
+                memory: &mut [u8],
+                records: &[u8],
+                answers: &mut [u8],
+                display: &mut [u8],
+            ) -> u32 {
+                let fault = OneFault::new(Fault::$fault);
+                reference::replay_with(board, memory, records, answers, display, Unobserved, fault)
             })*
         };
     }
@@ -353,22 +366,22 @@ mod tests {
     }
 
     /// Answers as the proved call does, but leaves a byte of memory other than it should.
-    fn scribbling(board: u32, memory: &mut [u8], records: &[u8], answers: &mut [u8]) -> u32 {
-        let result = gmch_replay(board, memory, records, answers);
+    fn scribbling(board: u32, memory: &mut [u8], records: &[u8], answers: &mut [u8], display: &mut [u8]) -> u32 {
+        let result = gmch_replay(board, memory, records, answers, display);
         memory[0x1234] ^= 1;
         result
     }
 
     /// Answers as the proved call does, but where it refuses the address is a word of the page at A0000h.
-    fn pointing(board: u32, memory: &mut [u8], records: &[u8], answers: &mut [u8]) -> u32 {
-        let result = gmch_replay(board, memory, records, answers);
+    fn pointing(board: u32, memory: &mut [u8], records: &[u8], answers: &mut [u8], display: &mut [u8]) -> u32 {
+        let result = gmch_replay(board, memory, records, answers, display);
         for answer in answers.as_chunks_mut::<RECORD_BYTES>().0.iter_mut().filter(|answer| answer[0] != 0) {
             answer[4..8].copy_from_slice(&memory[0xA_0FFC..0xA_1000]);
         }
         result
     }
 
-    fn refusing(_: u32, _: &mut [u8], _: &[u8], _: &mut [u8]) -> u32 {
+    fn refusing(_: u32, _: &mut [u8], _: &[u8], _: &mut [u8], _: &mut [u8]) -> u32 {
         1
     }
 

@@ -214,6 +214,7 @@ fn target_name(target: Target) -> &'static str {
         Target::Hub => "hub",
         Target::Vga => "vga",
         Target::MemoryMapped => "mmio",
+        Target::DisplayCache => "display",
     }
 }
 

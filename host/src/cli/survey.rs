@@ -514,7 +514,8 @@ mod tests {
         fn asked(&mut self, list: &[Record], last: usize) -> Vec<Answer> {
             let records = record::encode(list);
             let mut answers = vec![0; records.len()];
-            assert_eq!(gmch_replay(self.board.number(), &mut self.memory, &records, &mut answers), 0);
+            let mut display = vec![0; self.board.display_bytes()];
+            assert_eq!(gmch_replay(self.board.number(), &mut self.memory, &records, &mut answers, &mut display), 0);
             record::decode_answers(&answers).skip(list.len() - last).collect()
         }
 
@@ -598,7 +599,8 @@ mod tests {
     fn check(map: &Map, board: Board, memory: &Memory, setup: &[Record], smram: u32) -> usize {
         let mut proved = Proved { board, memory: memory.fresh() };
         let (mut bytes, mut table) = (memory.fresh(), Box::new([0; TABLE_WORDS]));
-        let mut hub = Gmch::observed(board, &mut bytes, &mut table, Heard::default()).expect("a board");
+        let mut display = vec![0; board.display_bytes()];
+        let mut hub = Gmch::observed(board, &mut bytes, &mut table, &mut display, Heard::default()).expect("a board");
         for record in setup {
             hub.answer(record);
         }
@@ -659,7 +661,7 @@ mod tests {
         for &(at, word) in words {
             memory[at..at + 4].copy_from_slice(&word.to_le_bytes());
         }
-        let mut hub = Gmch::new(Board::I82810Main, &mut memory, &mut table).expect("a board");
+        let mut hub = Gmch::new(Board::I82810Main, &mut memory, &mut table, &mut []).expect("a board");
         let mut records = setup(smram, 0xC000_0000, 0xF000_0000, 0);
         records.push(Record::write(0xF000_0000 + names::PGTBL_CTL, 4, base, false));
         for record in &records {

@@ -398,7 +398,7 @@ impl<O: Observer, F: Faults> Gmch<'_, O, F> {
     /// # use mitrophel::reference::{Gmch, TABLE_WORDS};
     /// # use mitrophel::{Board, Record};
     /// # let (mut memory, mut table) = (vec![0; 8 << 20], [0; TABLE_WORDS]);
-    /// # let mut gmch = Gmch::new(Board::I82810, &mut memory, &mut table).expect("8 MiB is a memory");
+    /// # let mut gmch = Gmch::new(Board::I82810, &mut memory, &mut table, &mut []).expect("8 MiB is a memory");
     /// assert_eq!(gmch.config_byte(0, 0x00), Some(0x86)); // the low byte of Intel's number
     /// assert_eq!(gmch.config_byte(2, 0x00), None);
     /// ```
@@ -413,7 +413,7 @@ impl<O: Observer, F: Faults> Gmch<'_, O, F> {
     /// # use mitrophel::reference::{Gmch, TABLE_WORDS};
     /// # use mitrophel::{Board, Record};
     /// # let (mut memory, mut table) = (vec![0; 8 << 20], [0; TABLE_WORDS]);
-    /// # let mut gmch = Gmch::new(Board::I82810, &mut memory, &mut table).expect("8 MiB is a memory");
+    /// # let mut gmch = Gmch::new(Board::I82810, &mut memory, &mut table, &mut []).expect("8 MiB is a memory");
     /// gmch.answer(&Record::io_write(0xCF8, 4, 0x8000_0070));
     /// gmch.answer(&Record::io_write(0xCFC, 1, 0x4E));
     /// assert_eq!(gmch.smram().0, 0x4E);
@@ -435,7 +435,7 @@ impl<O: Observer, F: Faults> Gmch<'_, O, F> {
     /// # use mitrophel::reference::{Gmch, TABLE_WORDS};
     /// # use mitrophel::{Board, Record};
     /// # let (mut memory, mut table) = (vec![0; 8 << 20], [0; TABLE_WORDS]);
-    /// # let mut gmch = Gmch::new(Board::I82810, &mut memory, &mut table).expect("8 MiB is a memory");
+    /// # let mut gmch = Gmch::new(Board::I82810, &mut memory, &mut table, &mut []).expect("8 MiB is a memory");
     /// assert_eq!(gmch.window_bytes(), 64 << 20);
     /// gmch.answer(&Record::io_write(0xCF8, 4, 0x8000_0070));
     /// gmch.answer(&Record::io_write(0xCFE, 2, 1));
@@ -455,7 +455,7 @@ impl<O: Observer, F: Faults> Gmch<'_, O, F> {
     /// # use mitrophel::reference::{Gmch, TABLE_WORDS};
     /// # use mitrophel::{Board, Record};
     /// # let (mut memory, mut table) = (vec![0; 8 << 20], [0; TABLE_WORDS]);
-    /// # let mut gmch = Gmch::new(Board::I82810, &mut memory, &mut table).expect("8 MiB is a memory");
+    /// # let mut gmch = Gmch::new(Board::I82810, &mut memory, &mut table, &mut []).expect("8 MiB is a memory");
     /// for (register, data) in [(0x70, 0x40), (0x810, 0xC200_0000)] {
     ///     gmch.answer(&Record::io_write(0xCF8, 4, 0x8000_0000 | register));
     ///     gmch.answer(&Record::io_write(0xCFC, 4, data));
@@ -474,7 +474,7 @@ impl<O: Observer, F: Faults> Gmch<'_, O, F> {
     /// # use mitrophel::reference::{Gmch, TABLE_WORDS};
     /// # use mitrophel::{Board, Record};
     /// # let (mut memory, mut table) = (vec![0; 8 << 20], [0; TABLE_WORDS]);
-    /// # let mut gmch = Gmch::new(Board::I82810, &mut memory, &mut table).expect("8 MiB is a memory");
+    /// # let mut gmch = Gmch::new(Board::I82810, &mut memory, &mut table, &mut []).expect("8 MiB is a memory");
     /// for (register, data) in [(0x70, 0x40), (0x814, 0xF000_0000)] {
     ///     gmch.answer(&Record::io_write(0xCF8, 4, 0x8000_0000 | register));
     ///     gmch.answer(&Record::io_write(0xCFC, 4, data));
@@ -492,7 +492,7 @@ impl<O: Observer, F: Faults> Gmch<'_, O, F> {
     /// # use mitrophel::reference::{Gmch, TABLE_WORDS};
     /// # use mitrophel::{Board, Record};
     /// # let (mut memory, mut table) = (vec![0; 8 << 20], [0; TABLE_WORDS]);
-    /// # let mut gmch = Gmch::new(Board::I82810, &mut memory, &mut table).expect("8 MiB is a memory");
+    /// # let mut gmch = Gmch::new(Board::I82810, &mut memory, &mut table, &mut []).expect("8 MiB is a memory");
     /// assert!(!gmch.graphics_decodes());
     /// for (register, data) in [(0x70, 0x40), (0x804, 2)] {
     ///     gmch.answer(&Record::io_write(0xCF8, 4, 0x8000_0000 | register));
@@ -545,7 +545,7 @@ mod tests {
     #[test]
     fn an_unsupported_power_state_leaves_the_two_bits() {
         let (mut memory, mut table) = (vec![0; 8 << 20], Box::new([0; TABLE_WORDS]));
-        let mut hub = Gmch::new(Board::I82810, &mut memory, &mut table).expect("8 MiB is a memory");
+        let mut hub = Gmch::new(Board::I82810, &mut memory, &mut table, &mut []).expect("8 MiB is a memory");
         for case in 0..4 * 4 * 2 * 2 {
             let (old, new, held_8, data_8) = (case & 3, case >> 2 & 3, case >> 4 & 1, case >> 5);
             // Read-only bits are written 0 and 1.
@@ -564,7 +564,7 @@ mod tests {
     #[test]
     fn a_write_past_the_low_byte_leaves_the_power_state() {
         let (mut memory, mut table) = (vec![0; 8 << 20], Box::new([0; TABLE_WORDS]));
-        let mut hub = Gmch::new(Board::I82810, &mut memory, &mut table).expect("8 MiB is a memory");
+        let mut hub = Gmch::new(Board::I82810, &mut memory, &mut table, &mut []).expect("8 MiB is a memory");
         for held in [0x000, 0x001, 0x002, 0x003, 0x100, 0x101, 0x102, 0x103] {
             for data in 0..=0xFF {
                 for other in [0, 0xFFFF_FF00] {
@@ -583,7 +583,7 @@ mod tests {
     #[test]
     fn the_proved_function_leaves_what_the_reference_leaves() {
         let (mut memory, mut table) = (vec![0; 8 << 20], Box::new([0; TABLE_WORDS]));
-        let mut hub = Gmch::new(Board::I82810, &mut memory, &mut table).expect("8 MiB is a memory");
+        let mut hub = Gmch::new(Board::I82810, &mut memory, &mut table, &mut []).expect("8 MiB is a memory");
         let path = Path::new(env!("CARGO_MANIFEST_DIR")).join("../crates/vectors/stdout");
         let text = fs::read_to_string(path).expect("what the proved functions print");
         let number = |digits: &str| u32::from_str_radix(digits, 16).expect("hexadecimal digits");

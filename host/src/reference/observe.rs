@@ -23,7 +23,7 @@ use std::fmt;
 ///     }
 /// }
 /// let (mut memory, mut table, mut log) = (vec![0; 8 << 20], [0; TABLE_WORDS], Log::default());
-/// let mut gmch = Gmch::observed(Board::I82810, &mut memory, &mut table, &mut log).expect("a memory");
+/// let mut gmch = Gmch::observed(Board::I82810, &mut memory, &mut table, &mut [], &mut log).expect("a memory");
 /// gmch.answer(&Record::read(0x1000, 4, false));
 /// assert_eq!(log.0, ["rule 1: memory", "1000h", "memory at 1000h, value 0h"]);
 /// ```
@@ -35,6 +35,10 @@ pub trait Observer {
     /// Bytes of main memory were read or written.
     #[inline(always)]
     fn touched(&mut self, _touch: Touch) {}
+
+    /// Bytes of the display cache were read or written, which is never protected.
+    #[inline(always)]
+    fn display_touched(&mut self, _touch: Touch) {}
 
     /// A word of a translation table in main memory was asked for. Where it was not refused,
     /// [`Observer::touched`] comes next, with its four bytes.
@@ -53,7 +57,7 @@ pub trait Observer {
 /// use mitrophel::Board;
 ///
 /// let (mut memory, mut table) = (vec![0; 8 << 20], [0; TABLE_WORDS]);
-/// let gmch: Option<Gmch<'_, Unobserved>> = Gmch::new(Board::I82810, &mut memory, &mut table);
+/// let gmch: Option<Gmch<'_, Unobserved>> = Gmch::new(Board::I82810, &mut memory, &mut table, &mut []);
 /// assert!(gmch.is_some());
 /// ```
 #[derive(Clone, Copy, Debug, Default)]
@@ -73,6 +77,11 @@ impl<O: Observer> Observer for &mut O {
     }
 
     #[inline(always)]
+    fn display_touched(&mut self, touch: Touch) {
+        (**self).display_touched(touch);
+    }
+
+    #[inline(always)]
     fn table_word(&mut self, word: TableWord) {
         (**self).table_word(word);
     }
@@ -83,7 +92,7 @@ impl<O: Observer> Observer for &mut O {
     }
 }
 
-/// One access to main memory, at its final physical address.
+/// One access to main memory, or to the display cache, at its final address there.
 ///
 /// ```
 /// use mitrophel::reference::{Gmch, Observer, Touch, TABLE_WORDS};
@@ -97,7 +106,8 @@ impl<O: Observer> Observer for &mut O {
 ///     }
 /// }
 /// let (mut memory, mut table) = (vec![0; 8 << 20], [0; TABLE_WORDS]);
-/// let mut gmch = Gmch::observed(Board::I82810, &mut memory, &mut table, Last::default()).expect("a memory");
+/// let gmch = Gmch::observed(Board::I82810, &mut memory, &mut table, &mut [], Last::default());
+/// let mut gmch = gmch.expect("a memory");
 /// gmch.answer(&Record::write(0x1000, 4, 7, false));
 /// let touch = Touch { address: 0x1000, width: 4, write: true, protected: false };
 /// assert_eq!(gmch.observer().0, Some(touch));
@@ -140,7 +150,8 @@ pub enum WordUse {
 ///     }
 /// }
 /// let (mut memory, mut table) = (vec![0; 8 << 20], [0; TABLE_WORDS]);
-/// let mut gmch = Gmch::observed(Board::I82810Main, &mut memory, &mut table, Last::default()).expect("a memory");
+/// let gmch = Gmch::observed(Board::I82810Main, &mut memory, &mut table, &mut [], Last::default());
+/// let mut gmch = gmch.expect("a memory");
 /// # for (register, data) in [(0x70, 0x40), (0x814, 0xF000_0000), (0x804, 2)] {
 /// #     gmch.answer(&Record::io_write(0xCF8, 4, 0x8000_0000 | register));
 /// #     gmch.answer(&Record::io_write(0xCFC, 4, data));

@@ -118,7 +118,7 @@ impl<O: Observer, F: Faults> Gmch<'_, O, F> {
     /// # use mitrophel::reference::{Gmch, TABLE_WORDS};
     /// # use mitrophel::{Board, Record};
     /// # let (mut memory, mut table) = (vec![0; 8 << 20], [0; TABLE_WORDS]);
-    /// # let mut gmch = Gmch::new(Board::I82810, &mut memory, &mut table).expect("8 MiB is a memory");
+    /// # let mut gmch = Gmch::new(Board::I82810, &mut memory, &mut table, &mut []).expect("8 MiB is a memory");
     /// assert_eq!(gmch.register(0x20A8), Some(0xFFFF)); // the interrupt mask
     /// assert_eq!(gmch.register(0x20AA), None);
     /// ```

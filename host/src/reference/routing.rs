@@ -69,7 +69,7 @@ impl<O: Observer, F: Faults> Gmch<'_, O, F> {
     /// # use mitrophel::reference::{Gmch, TABLE_WORDS};
     /// # use mitrophel::{Board, Record};
     /// # let (mut memory, mut table) = (vec![0; 8 << 20], [0; TABLE_WORDS]);
-    /// # let mut gmch = Gmch::new(Board::I82810, &mut memory, &mut table).expect("8 MiB is a memory");
+    /// # let mut gmch = Gmch::new(Board::I82810, &mut memory, &mut table, &mut []).expect("8 MiB is a memory");
     /// gmch.answer(&Record::io_write(0xCF8, 4, 0x8000_0070));
     /// gmch.answer(&Record::io_write(0xCFC, 1, 0xBE)); // 512 KiB taken, TSEG of 1 MiB
     /// assert_eq!(gmch.usable_top(), 0x68_0000);
@@ -199,7 +199,7 @@ impl<O: Observer, F: Faults> Gmch<'_, O, F> {
     /// # use mitrophel::reference::{Gmch, TABLE_WORDS};
     /// # use mitrophel::{Board, Record};
     /// # let (mut memory, mut table) = (vec![0; 8 << 20], [0; TABLE_WORDS]);
-    /// # let mut gmch = Gmch::new(Board::I82810, &mut memory, &mut table).expect("8 MiB is a memory");
+    /// # let mut gmch = Gmch::new(Board::I82810, &mut memory, &mut table, &mut []).expect("8 MiB is a memory");
     /// gmch.answer(&Record::io_write(0xCF8, 4, 0x8000_0070));
     /// gmch.answer(&Record::io_write(0xCFC, 1, 0xBE)); // 512 KiB taken, TSEG of 1 MiB
     /// assert!(gmch.protected(0xA_0000) && gmch.protected(0x7F_FFFF));
@@ -225,7 +225,7 @@ impl<O: Observer, F: Faults> Gmch<'_, O, F> {
     /// # use mitrophel::reference::{Gmch, TABLE_WORDS};
     /// # use mitrophel::{Board, Record};
     /// # let (mut memory, mut table) = (vec![0; 8 << 20], [0; TABLE_WORDS]);
-    /// # let mut gmch = Gmch::new(Board::I82810, &mut memory, &mut table).expect("8 MiB is a memory");
+    /// # let mut gmch = Gmch::new(Board::I82810, &mut memory, &mut table, &mut []).expect("8 MiB is a memory");
     /// assert_eq!(gmch.protected_ranges().count(), 0);
     /// gmch.answer(&Record::io_write(0xCF8, 4, 0x8000_0070));
     /// gmch.answer(&Record::io_write(0xCFC, 1, 0xBE)); // 512 KiB taken, TSEG of 1 MiB
@@ -274,7 +274,7 @@ mod tests {
     #[test]
     fn the_ranges_hold_what_is_protected() {
         let (mut memory, mut table) = (vec![0; 16 << 20], Box::new([0; TABLE_WORDS]));
-        let mut hub = Gmch::new(Board::I82810, &mut memory, &mut table).expect("16 MiB is a memory");
+        let mut hub = Gmch::new(Board::I82810, &mut memory, &mut table, &mut []).expect("16 MiB is a memory");
         for smram in 0..=0xFF {
             hub.answer(&Record::reset());
             hub.answer(&Record::io_write(0xCF8, 4, 0x8000_0070));

@@ -56,7 +56,7 @@ pub struct Follower<'m> {
 impl<'m> Follower<'m> {
     /// A follower at cold start.
     pub fn new(ground: &'m mut Ground) -> Follower<'m> {
-        let hub = Gmch::new(Board::I82810, &mut ground.memory, &mut ground.table);
+        let hub = Gmch::new(Board::I82810, &mut ground.memory, &mut ground.table, &mut []);
         Follower { hub: hub.expect("a length that a memory can have") }
     }
 

@@ -416,7 +416,7 @@ mod tests {
             let text = String::from_utf8(text).expect("a listing is UTF-8");
             for mib in [8, 16, 24] {
                 let (mut memory, mut table) = (vec![0; mib << 20], Box::new([0; TABLE_WORDS]));
-                let mut hub = Gmch::new(Board::I82810, &mut memory, &mut table).expect("a board");
+                let mut hub = Gmch::new(Board::I82810, &mut memory, &mut table, &mut []).expect("a board");
                 for (record, line) in records.iter().zip(text.lines()) {
                     let answer = hub.answer(record);
                     let reached = record.is_management() && answer.target() == Some(Target::Memory);
@@ -466,7 +466,8 @@ mod tests {
             // A macro takes no record whose data is left out.
             assert_eq!(lists[0].matches(REDACTED).count(), lists[1].matches(REDACTED).count(), "seed {seed}");
             let (mut memory, mut table) = (vec![0; 8 << 20], Box::new([0; TABLE_WORDS]));
-            let mut hub = Gmch::new(Board::Dc100Main, &mut memory, &mut table).expect("a board");
+            let mut display = vec![0; Board::Dc100Main.display_bytes()];
+            let mut hub = Gmch::new(Board::Dc100Main, &mut memory, &mut table, &mut display).expect("a board");
             for (record, line) in records.iter().zip(lists[1].lines()) {
                 let answer = hub.answer(record);
                 let entry = Some(answer.address).filter(|_| answer.target() == Some(Target::MemoryMapped));

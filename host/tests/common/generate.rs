@@ -8,7 +8,7 @@ use super::words::{Event, Meets};
 use super::{Random, Watch};
 use mitrophel::faults::Faultless;
 use mitrophel::reference::{Fence, Gmch, Table, TABLE_WORDS};
-use mitrophel::{Answer, Board, Record};
+use mitrophel::{Answer, Board, Record, DISPLAY_BYTES};
 
 const KIB: u32 = 1 << 10;
 const MIB: u32 = 1 << 20;
@@ -20,8 +20,17 @@ pub const LIST_MEMORY: usize = 24 << 20;
 /// What memory holds before each list. A page holds no-ops, known instructions or noise, by its
 /// number, so that parser runs are long, eventful or short.
 pub fn pristine_memory() -> Vec<u8> {
-    let mut memory = vec![0; LIST_MEMORY];
-    let mut random = Random::new(0x0082_8100);
+    pages_of(LIST_MEMORY, 0x0082_8100)
+}
+
+/// The same of a display cache, with other noise.
+pub fn pristine_display() -> Vec<u8> {
+    pages_of(DISPLAY_BYTES, 0xDC_0100)
+}
+
+fn pages_of(bytes: usize, seed: u64) -> Vec<u8> {
+    let mut memory = vec![0; bytes];
+    let mut random = Random::new(seed);
     for page in memory.chunks_exact_mut(PAGE as usize) {
         let class = random.below(4);
         for word in page.chunks_exact_mut(4) {
@@ -71,10 +80,16 @@ pub struct Generator<'m> {
 }
 
 impl<'m> Generator<'m> {
-    pub fn new(random: Random, board: u32, memory: &'m mut [u8], table: &'m mut Table) -> Generator<'m> {
+    pub fn new(
+        random: Random,
+        board: u32,
+        memory: &'m mut [u8],
+        table: &'m mut Table,
+        display: &'m mut [u8],
+    ) -> Generator<'m> {
         table.fill(0);
         let watch = Watch { board: board as usize, ..Watch::default() };
-        let hub = Gmch::with_faults(board, memory, table, watch, Faultless).expect("a good board");
+        let hub = Gmch::with_faults(board, memory, table, display, watch, Faultless).expect("a good board");
         let mut generator =
             Generator { random, hub, records: Vec::new(), answers: Vec::new(), pages: Vec::new(), resets: true };
         for _ in 0..6 {

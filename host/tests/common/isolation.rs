@@ -10,7 +10,7 @@
 //! memory, which is equal at the lock.
 
 use super::compare::{range, undo};
-use super::generate::{board, pristine_memory, table, Generator};
+use super::generate::{board, pristine_display, pristine_memory, table, Generator};
 use super::Random;
 use mitrophel::reference::{Lsmm, Smram, Touch};
 use mitrophel::{record, Answer, Board, Kind, Record};
@@ -82,12 +82,11 @@ fn other_list(records: &[Record], landing: &[bool], random: &mut Random) -> Vec<
 pub fn two_runs(
     seed: u64,
     trials: u64,
-    replay: impl FnMut(u32, &mut [u8], &[u8], &mut [u8]) -> bool,
+    replay: impl FnMut(u32, &mut [u8], &[u8], &mut [u8], &mut [u8]) -> bool,
 ) -> Result<Tally, String> {
     let pristine = pristine_memory();
-    let memories =
-        Memories { tom: None, scratch: pristine.clone(), first: pristine.clone(), second: pristine.clone(), pristine };
-    trials_on(memories, seed, trials, replay)
+    let [scratch, first, second] = std::array::from_fn(|_| pristine.clone());
+    trials_on(Memories::new(None, pristine, [scratch, first, second]), seed, trials, replay)
 }
 
 /// The same on memories of this length, all zeros before the keys are in them.
@@ -95,25 +94,28 @@ pub fn two_runs_on_zeros(
     seed: u64,
     tom: usize,
     trials: u64,
-    replay: impl FnMut(u32, &mut [u8], &[u8], &mut [u8]) -> bool,
+    replay: impl FnMut(u32, &mut [u8], &[u8], &mut [u8], &mut [u8]) -> bool,
 ) -> Result<Tally, String> {
     let [pristine, scratch, first, second] = std::array::from_fn(|_| vec![0; tom]);
-    trials_on(Memories { tom: Some(tom), pristine, scratch, first, second }, seed, trials, replay)
+    trials_on(Memories::new(Some(tom), pristine, [scratch, first, second]), seed, trials, replay)
 }
 
 fn trials_on(
     mut memories: Memories,
     seed: u64,
     trials: u64,
-    mut replay: impl FnMut(u32, &mut [u8], &[u8], &mut [u8]) -> bool,
+    mut replay: impl FnMut(u32, &mut [u8], &[u8], &mut [u8], &mut [u8]) -> bool,
 ) -> Result<Tally, String> {
     let mut tally = Tally::default();
     for number in 0..trials {
         let mut trial = Trial::make(Random::for_list(seed ^ 0x0A11, number), &mut memories, &mut tally);
         let mut answers = [vec![0xA5; trial.first.len()], vec![0x5A; trial.second.len()]];
         let (board, tom) = (trial.board, trial.tom);
-        let good = replay(board, &mut memories.first[..tom], &trial.first, &mut answers[0])
-            && replay(board, &mut memories.second[..tom], &trial.second, &mut answers[1]);
+        let [first, second] = &mut answers;
+        let displays = memories.displays.each_mut().map(|display| &mut display[..trial.display]);
+        let [_, first_display, second_display] = displays;
+        let good = replay(board, &mut memories.first[..tom], &trial.first, first, first_display)
+            && replay(board, &mut memories.second[..tom], &trial.second, second, second_display);
         if !good {
             return Err(format!("seed {seed}, trial {number}: the call was refused"));
         }
@@ -127,7 +129,8 @@ fn trials_on(
     Ok(tally)
 }
 
-/// Memory before a trial; as the reference leaves it; as each of the two runs leaves it.
+/// Memory before a trial; as the reference leaves it; as each of the two runs leaves it. The display cache likewise:
+/// request 11 of document 02, "Demand 3 counts this memory as unprotected, equal at the start."
 struct Memories {
     /// The length of every trial's memory, where it is not left to the trial.
     tom: Option<usize>,
@@ -135,10 +138,22 @@ struct Memories {
     scratch: Vec<u8>,
     first: Vec<u8>,
     second: Vec<u8>,
+    pristine_display: Vec<u8>,
+    /// The reference's, the first run's and the second's.
+    displays: [Vec<u8>; 3],
 }
 
 impl Memories {
+    fn new(tom: Option<usize>, pristine: Vec<u8>, [scratch, first, second]: [Vec<u8>; 3]) -> Memories {
+        let pristine_display = pristine_display();
+        let displays = std::array::from_fn(|_| pristine_display.clone());
+        Memories { tom, pristine, scratch, first, second, pristine_display, displays }
+    }
+
     fn restore(&mut self, trial: &Trial) {
+        for display in &mut self.displays {
+            undo(display, &self.pristine_display, &trial.display_writes);
+        }
         for memory in [&mut self.scratch, &mut self.first, &mut self.second] {
             undo(memory, &self.pristine, &trial.writes);
             for bytes in &trial.protected {
@@ -164,6 +179,9 @@ struct Trial {
     at_lock: Vec<(Vec<u8>, Vec<u8>)>,
     landed: Vec<Touch>,
     writes: Vec<Touch>,
+    /// The display cache's length, and where it was written.
+    display: usize,
+    display_writes: Vec<Touch>,
 }
 
 impl Trial {
@@ -173,7 +191,9 @@ impl Trial {
         let tom = memories.tom.unwrap_or(tom);
         let (before, after) = (random.below(25), 20 + random.below(80));
         let mut table = table();
-        let mut generator = Generator::new(random, board, &mut memories.scratch[..tom], &mut table);
+        let display = Board::ALL[board as usize].display_bytes();
+        let (scratch, scratch_display) = (&mut memories.scratch[..tom], &mut memories.displays[0][..display]);
+        let mut generator = Generator::new(random, board, scratch, &mut table, scratch_display);
         generator.hub.observer().note_reads = true;
         generator.fill(before);
         if !generator.hub.smram().locked() {
@@ -224,6 +244,8 @@ impl Trial {
             at_lock: Vec::new(),
             landed: watch.writes[prefix_writes..].iter().copied().filter(|touch| touch.protected).collect(),
             writes: watch.writes,
+            display,
+            display_writes: watch.display_writes,
         };
         trial.make_differ(at_lock, &seen, memories, &mut random, tally);
         trial
@@ -276,9 +298,13 @@ impl Trial {
         Ok(())
     }
 
-    /// Unprotected memory is equal in both runs, and a protected byte on which no write landed is in
-    /// each run as it was at the lock.
+    /// Unprotected memory, the display cache with it, is equal in both runs, and a protected byte on which no write
+    /// landed is in each run as it was at the lock.
     fn check_memory(&mut self, memories: &Memories) -> Result<(), String> {
+        let [_, first, second] = &memories.displays;
+        if first != second {
+            return Err("the display cache differs".to_string());
+        }
         let (first, second) = (&memories.first[..self.tom], &memories.second[..self.tom]);
         // The TSEG, empty or not, is the last range and ends at TOM.
         let mut from = 0;

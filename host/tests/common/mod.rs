@@ -95,6 +95,8 @@ pub struct Watch {
     /// For each record, where it landed if it is an access that reached memory.
     pub landings: Vec<Option<Touch>>,
     last: Option<Touch>,
+    /// Every write of the list to the display cache.
+    pub display_writes: Vec<Touch>,
     /// The board's number.
     pub board: usize,
     pub words: Words,
@@ -117,6 +119,12 @@ impl Observer for Watch {
             self.writes.push(touch);
         } else if self.note_reads {
             self.reads.push(touch);
+        }
+    }
+
+    fn display_touched(&mut self, touch: Touch) {
+        if touch.write {
+            self.display_writes.push(touch);
         }
     }
 
@@ -145,7 +153,7 @@ pub struct Coverage {
     pub kinds: [u64; 10],
     /// By board.
     pub codes: [[u64; 14]; Board::ALL.len()],
-    pub targets: [u64; 6],
+    pub targets: [u64; Target::ALL.len()],
     pub rules: [u64; Rule::ALL.len()],
     pub events: [u64; Event::ALL.len()],
     pub places: Places,
@@ -182,7 +190,7 @@ impl Coverage {
         for board in Board::ALL {
             names.extend((0..14).map(|code| format!("code {code}, board {board}")));
         }
-        names.extend((0..6).map(|target| format!("target {target}")));
+        names.extend((0..Target::ALL.len()).map(|target| format!("target {target}")));
         names.extend(Rule::ALL.iter().map(Rule::to_string));
         names.extend(Event::ALL.iter().map(Event::to_string));
         let names = names.into_iter().map(|name| Some(name).filter(|name| !name.starts_with("code 1,")));
@@ -220,21 +228,33 @@ impl fmt::Display for Coverage {
     }
 }
 
-/// Replays the records through the proved call and through the reference, asks that both agree in
-/// every answer and every byte of memory, and gives the answers.
+/// A display cache of the length that this board is lent, all zero.
+pub fn display(board: u32) -> Vec<u8> {
+    vec![0; Board::from_number(board).map_or(0, Board::display_bytes)]
+}
+
+/// [`replay_with_display`] with a display cache of zeros, where the board has one.
 #[track_caller]
 pub fn replay_both(board: u32, memory: &mut [u8], records: &[Record]) -> Vec<Answer> {
+    replay_with_display(board, memory, records, &mut display(board))
+}
+
+/// Replays the records through the proved call and through the reference, asks that both agree in
+/// every answer and every byte of both memories, and gives the answers.
+#[track_caller]
+pub fn replay_with_display(board: u32, memory: &mut [u8], records: &[Record], display: &mut [u8]) -> Vec<Answer> {
     let bytes = record::encode(records);
-    let mut expected_memory = memory.to_vec();
+    let (mut expected_memory, mut expected_display) = (memory.to_vec(), display.to_vec());
     let mut expected = vec![0xA5; bytes.len()];
     let mut actual = vec![0x5A; bytes.len()];
-    assert_eq!(reference::replay(board, &mut expected_memory, &bytes, &mut expected), 0);
-    assert_eq!(call::gmch_replay(board, memory, &bytes, &mut actual), 0);
+    assert_eq!(reference::replay(board, &mut expected_memory, &bytes, &mut expected, &mut expected_display), 0);
+    assert_eq!(call::gmch_replay(board, memory, &bytes, &mut actual, display), 0);
     let pairs = record::decode_answers(&expected).zip(record::decode_answers(&actual));
     for (record, (expected, actual)) in records.iter().zip(pairs) {
         assert_eq!(actual, expected, "{record}");
     }
     assert!(memory == expected_memory, "memory differs");
+    assert!(display == expected_display, "the display cache differs");
     record::decode_answers(&actual).collect()
 }
 
