@@ -358,6 +358,80 @@ faults! {
     /// The registers and the window are found before rule 5.
     GraphicsOverTop,
 
+    // Display cache: request 11 of document 02.
+    /// Entry type 01 reaches a display cache on board kind 0.
+    DisplayCacheOnKind0,
+    /// Entry type 01 reaches a display cache on board kind 2.
+    DisplayCacheOnKind2,
+    /// Entry type 01 reaches the display cache whatever 3000h holds.
+    DisplayCacheAlwaysOn,
+    /// The display cache is on at cold start and after a reset.
+    DisplayCacheOnByDefault,
+    /// A page of type 01 at or above 4 MiB is refused with code 7 while the display cache is off.
+    DisplayPageBeforeType,
+    /// A page of type 01 is compared with TOM.
+    DisplayPageBelowTom,
+    /// A page of type 01 at 4 MiB is accepted.
+    DisplayPageAtEndAccepted,
+    /// The display cache's last page is refused with code 7.
+    LastDisplayPageRefused,
+    /// A page of the display cache is refused with code 6 where main memory's is protected.
+    DisplayPageProtected,
+    /// An entry of type 01 that is not valid reaches the display cache.
+    InvalidEntryReachesDisplay,
+    /// Entry type 10 reaches the display cache.
+    Type10ReachesDisplay,
+    /// Entry type 10 reaches main memory.
+    Type10ReachesMemory,
+    /// The parser's fetch by an entry of type 01 reads main memory.
+    DisplayFetchReadsMemory,
+    /// The parser's fetch by an entry of type 01 is refused with code 5.
+    DisplayFetchRefused,
+    /// A write to the display cache lands in main memory.
+    DisplayWriteLandsInMemory,
+    /// A read of the display cache reads main memory.
+    DisplayReadFromMemory,
+    /// An access to the display cache has target 1.
+    DisplayAnsweredAsMemory,
+    /// An access to the display cache shows the start of its page.
+    DisplayAddressOfPage,
+    /// Code 5 shows zero on the boards that have a display cache.
+    DisplayOffShowsZero,
+    /// Code 7 of a page of type 01 shows zero.
+    DisplayPageShowsZero,
+    /// 3000h to 3002h are listed on board kind 0.
+    DisplayRegistersOnKind0,
+    /// 3001h is listed on board kind 2.
+    Register3001OnKind2,
+    /// 3000h keeps all bits.
+    DisplayControlKeepsAllBits,
+    /// 3001h keeps bit 0 alone.
+    Register3001KeepsBit0,
+    /// 3002h keeps bits 4:0 alone.
+    Register3002Keeps5Bits,
+    /// 3001h defaults to 00h.
+    Register3001DefaultsToZero,
+    /// 3002h defaults to 00h.
+    Register3002DefaultsToZero,
+    /// Four bytes at 3000h reach the three registers.
+    DisplayRegistersAsWord,
+    /// Two bytes at 3001h reach 3001h and 3002h.
+    DisplayRegistersAsHalf,
+    /// Two bytes at 3002h reach 3002h.
+    TwoBytesAt3002Accepted,
+    /// An access to 3003h is refused with code 10.
+    Byte3003Refused,
+    /// Reset zeroes the display cache.
+    ResetClearsDisplay,
+    /// Reset leaves 3000h to 3002h.
+    ResetKeepsDisplayRegisters,
+    /// Board kinds 1 and 3 take no display cache, too.
+    NoDisplayAccepted,
+    /// Board kinds 1 and 3 take a display cache of more than 4 MiB, too.
+    LongDisplayAccepted,
+    /// Board kinds 0 and 2 take a display cache of 4 MiB, too.
+    DisplayLentToOthers,
+
     // Fences.
     /// The highest matching fence wins.
     HighestFenceWins,

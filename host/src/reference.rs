@@ -9,6 +9,7 @@
 //! tests have, and is constantly false in [`replay`].
 
 mod configuration;
+mod display;
 mod observe;
 mod registers;
 mod ring;
@@ -17,6 +18,7 @@ mod table;
 mod window;
 
 pub use configuration::{Lsmm, Smram};
+pub use display::Place;
 pub use observe::{Observer, Rule, TableWord, Touch, Unobserved, WordUse};
 pub use ring::Ring;
 pub use window::Fence;
@@ -26,6 +28,7 @@ use crate::call::{is_memory_length, MOST_MEMORY};
 use crate::faults::{Fault, Faultless, Faults};
 use crate::record::{Answer, Kind, Record, Refusal, Target, MAX_RECORDS, RECORD_BYTES};
 use configuration::default_bytes;
+use display::is_display_length;
 use routing::Mode;
 
 const KIB: u32 = 1 << 10;
@@ -130,12 +133,6 @@ fn top_of_memory(board: Board, bytes: usize, faults: &impl Faults) -> Option<u32
     u32::try_from(bytes).ok().filter(|_| good)
 }
 
-/// Whether a board can be lent a display cache of this length. Request 11 of document 02: "The host lends a second
-/// memory of 4 MiB for kinds 1 and 3, and of length 0 for the others; else code 1."
-fn is_display_length(board: Board, bytes: usize, _faults: &impl Faults) -> bool {
-    bytes == board.display_bytes()
-}
-
 /// A read or write of 1, 2 or 4 bytes inside one aligned word.
 #[derive(Clone, Copy)]
 struct Access {
@@ -143,6 +140,24 @@ struct Access {
     width: u32,
     /// What a write stores; none for a read.
     data: Option<u32>,
+}
+
+impl Access {
+    /// Reads or writes these bytes, which are as many as the access is wide: "value read, zero-extended (0 for writes)";
+    /// "a write's data past its width is ignored".
+    #[inline]
+    fn carry_out(self, bytes: &mut [u8]) -> u32 {
+        match (self.data, bytes) {
+            (None, &mut [a]) => u32::from(a),
+            (None, &mut [a, b]) => u32::from(u16::from_le_bytes([a, b])),
+            (None, &mut [a, b, c, d]) => u32::from_le_bytes([a, b, c, d]),
+            (None, _) => 0,
+            (Some(data), bytes) => {
+                bytes.copy_from_slice(&data.to_le_bytes()[..self.width as usize]);
+                0
+            }
+        }
+    }
 }
 
 /// Why an access is refused, and where: request 5 of document 02, "Say where it was refused". Fence and translation give
@@ -201,6 +216,8 @@ pub struct Gmch<'m, O = Unobserved, F = Faultless> {
     interrupt_enable: u16,
     interrupt_identity: u16,
     interrupt_mask: u16,
+    /// 3000h to 3002h, where the board has them.
+    display_registers: [u8; 3],
     observer: O,
     faults: F,
 }
@@ -287,6 +304,7 @@ impl<'m, O: Observer, F: Faults> Gmch<'m, O, F> {
             interrupt_enable: 0,
             interrupt_identity: 0,
             interrupt_mask: 0,
+            display_registers: [0; 3],
             observer,
             faults,
         };
@@ -294,9 +312,13 @@ impl<'m, O: Observer, F: Faults> Gmch<'m, O, F> {
         Some(hub)
     }
 
-    /// "Reset restores defaults and zeroes the table; memory stays." Of a table in main memory: "A reset leaves those
-    /// words."
+    /// "Reset restores defaults and zeroes the table; memory stays", that of the display cache too. Of a table in main
+    /// memory: "A reset leaves those words."
     fn reset(&mut self) {
+        let display_registers = self.display_registers;
+        if self.wrong(Fault::ResetClearsDisplay) {
+            self.clear_display();
+        }
         let (smram, table_control, pm_cs) = (self.smram(), self.table_control, self.pm_cs());
         let in_memory = self.table_in_memory();
         if in_memory && self.wrong(Fault::ResetClearsWords) {
@@ -314,6 +336,9 @@ impl<'m, O: Observer, F: Faults> Gmch<'m, O, F> {
         }
         if self.wrong(Fault::ResetKeepsPowerState) {
             self.put_back_power(pm_cs);
+        }
+        if self.wrong(Fault::ResetKeepsDisplayRegisters) {
+            self.display_registers = display_registers;
         }
     }
 
@@ -333,6 +358,7 @@ impl<'m, O: Observer, F: Faults> Gmch<'m, O, F> {
         self.interrupt_identity = 0;
         // "All listed registers default to 0 but 20A8h."
         self.interrupt_mask = 0xFFFF;
+        self.display_registers = self.display_defaults();
     }
 
     /// Carries out one record and answers it.

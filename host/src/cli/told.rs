@@ -327,10 +327,9 @@ fn ring_offset(step: &Step<'_, '_>) -> String {
 
 fn unknown_instruction(step: &Step<'_, '_>) -> String {
     let offset = fetch_offset(step);
-    let word = step.hub.fetch_address(offset).ok().and_then(|address| step.hub.memory().get(address as usize..));
-    match word.and_then(|bytes| bytes.first_chunk()) {
-        Some(bytes) => format!("word {:08X}h is no instruction", u32::from_le_bytes(*bytes)),
-        None => Refusal::UnknownInstruction.reason().to_string(),
+    match step.hub.fetch_address(offset) {
+        Ok(place) => format!("word {:08X}h is no instruction", step.hub.word(place)),
+        Err(_) => Refusal::UnknownInstruction.reason().to_string(),
     }
 }
 

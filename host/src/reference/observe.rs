@@ -40,6 +40,10 @@ pub trait Observer {
     #[inline(always)]
     fn display_touched(&mut self, _touch: Touch) {}
 
+    /// A graphics offset's entry was looked up, in either home of the table. What it leads to comes next.
+    #[inline(always)]
+    fn looked_up(&mut self, _entry: u32) {}
+
     /// A word of a translation table in main memory was asked for. Where it was not refused,
     /// [`Observer::touched`] comes next, with its four bytes.
     #[inline(always)]
@@ -79,6 +83,11 @@ impl<O: Observer> Observer for &mut O {
     #[inline(always)]
     fn display_touched(&mut self, touch: Touch) {
         (**self).display_touched(touch);
+    }
+
+    #[inline(always)]
+    fn looked_up(&mut self, entry: u32) {
+        (**self).looked_up(entry);
     }
 
     #[inline(always)]

@@ -2,6 +2,7 @@
 
 use super::routing::Mode;
 use super::{reached, Access, Fence, Gmch, Observer, WordUse};
+use crate::board::Board;
 use crate::faults::{Fault, Faults};
 use crate::record::{Answer, Refusal, Target};
 
@@ -30,15 +31,18 @@ enum Listed {
     InterruptStatus,
     /// A word of the translation table (GTT), 10000h to 1FFFCh
     Entry(usize),
+    /// DRT, DRAMCL and DRAMCH, 3000h to 3002h
+    Display(usize),
 }
 
 impl Listed {
-    /// The register in the aligned word at `offset`, if one is listed there: "fences 2000h to 201Ch
-    /// and 2020h, 2030h, 2034h, 2038h, 203Ch, 10000h-1FFFCh, four bytes each; 20A0h, 20A4h, 20A8h,
-    /// 20ACh, two bytes each". Each starts where its word does.
+    /// The first register that an access at `offset` can touch inside its aligned word, if one is listed there:
+    /// "fences 2000h to 201Ch and 2020h, 2030h, 2034h, 2038h, 203Ch, 10000h-1FFFCh, four bytes each; 20A0h, 20A4h,
+    /// 20A8h, 20ACh, two bytes each"; and by request 11 of document 02 "3000h to 3002h ... one byte each", where `display`
+    /// says that they are listed.
     #[inline]
-    const fn in_word(offset: u32) -> Option<Listed> {
-        Some(match offset & !3 {
+    const fn touched(offset: u32, display: bool) -> Option<Listed> {
+        let listed = match offset & !3 {
             word @ 0x1_0000..=0x1_FFFC => Listed::Entry((word - 0x1_0000) as usize / 4),
             word @ 0x2000..=0x201C => Listed::Fence((word - 0x2000) as usize / 4),
             0x2020 => Listed::TableControl,
@@ -50,13 +54,29 @@ impl Listed {
             0x20A4 => Listed::InterruptIdentity,
             0x20A8 => Listed::InterruptMask,
             0x20AC => Listed::InterruptStatus,
+            0x3000 if display && offset <= 0x3002 => Listed::Display((offset - 0x3000) as usize),
             _ => return None,
-        })
+        };
+        if offset % 4 < listed.start() + listed.bytes() {
+            Some(listed)
+        } else {
+            None
+        }
+    }
+
+    /// Where it starts in its aligned word.
+    #[inline]
+    const fn start(self) -> u32 {
+        match self {
+            Listed::Display(i) => i as u32,
+            _ => 0,
+        }
     }
 
     #[inline]
     const fn bytes(self) -> u32 {
         match self {
+            Listed::Display(_) => 1,
             Listed::InterruptEnable | Listed::InterruptIdentity | Listed::InterruptMask | Listed::InterruptStatus => 2,
             _ => 4,
         }
@@ -83,10 +103,13 @@ impl<O: Observer, F: Faults> Gmch<'_, O, F> {
     /// "read 0, ignore writes". The codes of a table word in main memory come "after code 10 for a register access".
     #[inline]
     pub(super) fn register_access(&mut self, offset: u32, access: Access, mode: Mode) -> Result<Answer, Refusal> {
-        let value = match Listed::in_word(offset) {
-            Some(listed) if offset % 4 < listed.bytes() => {
-                let exact = offset.is_multiple_of(4) && access.width == listed.bytes();
-                let inside = offset % 4 + access.width <= listed.bytes();
+        if let Some(wrong) = self.wrong_display_access(offset, access) {
+            return wrong;
+        }
+        let value = match Listed::touched(offset, self.lists_display(offset)) {
+            Some(listed) => {
+                let exact = offset % 4 == listed.start() && access.width == listed.bytes();
+                let inside = offset % 4 + access.width <= listed.start() + listed.bytes();
                 let word = match listed {
                     Listed::Entry(i) if self.table_in_memory() => Some(i),
                     _ => None,
@@ -106,7 +129,7 @@ impl<O: Observer, F: Faults> Gmch<'_, O, F> {
                     }
                 }
             }
-            _ => 0,
+            None => 0,
         };
         Ok(reached(Target::MemoryMapped, offset, value))
     }
@@ -123,7 +146,7 @@ impl<O: Observer, F: Faults> Gmch<'_, O, F> {
     /// assert_eq!(gmch.register(0x20AA), None);
     /// ```
     pub fn register(&self, offset: u32) -> Option<u32> {
-        match Listed::in_word(offset).filter(|_| offset.is_multiple_of(4))? {
+        match Listed::touched(offset, self.has_display()).filter(|listed| offset % 4 == listed.start())? {
             Listed::Entry(i) => self.table_word(i).ok(),
             listed => Some(self.register_read(listed)),
         }
@@ -145,7 +168,16 @@ impl<O: Observer, F: Faults> Gmch<'_, O, F> {
             // "20ACh reads 0 and ignores writes"
             Listed::InterruptStatus => 0,
             Listed::Entry(i) => self.table[i],
+            Listed::Display(i) => u32::from(self.display_registers[i]),
         }
+    }
+
+    /// Whether 3000h to 3002h are listed: "for kinds 1 and 3 only".
+    #[inline]
+    fn lists_display(&self, offset: u32) -> bool {
+        self.has_display()
+            || offset == 0x3001 && self.board == Board::I82810Main && self.wrong(Fault::Register3001OnKind2)
+            || self.board == Board::I82810 && self.wrong(Fault::DisplayRegistersOnKind0)
     }
 
     /// A listed register; a table word is one of the private table.
@@ -170,6 +202,7 @@ impl<O: Observer, F: Faults> Gmch<'_, O, F> {
             Listed::InterruptStatus => {}
             Listed::Entry(i) if self.wrong(Fault::EntryStoredWhole) => self.table[i] = data,
             Listed::Entry(i) => self.table[i] = data & self.entry_bits(),
+            Listed::Display(i) => self.write_display_register(i, data as u8),
         }
     }
 

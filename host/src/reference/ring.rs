@@ -1,6 +1,6 @@
 //! The ring parser (document 01, "Table, fences, ring, interrupts").
 
-use super::{Gmch, Observer, Touch, KIB, MIB};
+use super::{Gmch, Observer, Place, Touch, KIB, MIB};
 use crate::faults::{Fault, Faults};
 use crate::record::{Answer, Refusal};
 
@@ -93,22 +93,26 @@ impl<O: Observer, F: Faults> Gmch<'_, O, F> {
     /// One step: true if it was completed, false where the run ends by itself.
     #[inline]
     fn step<const IN_MEMORY: bool>(&mut self) -> Result<bool, Refusal> {
-        let Some(address) = self.next_word::<IN_MEMORY>()? else {
+        let Some(place) = self.next_word::<IN_MEMORY>()? else {
             return Ok(false);
         };
-        self.observer.touched(Touch { address, width: 4, write: false, protected: self.protected(address) });
-        self.execute(self.word_at(address))?;
+        let touch = |address, protected| Touch { address, width: 4, write: false, protected };
+        match place {
+            Place::Memory(address) => self.observer.touched(touch(address, self.protected(address))),
+            Place::DisplayCache(address) => self.observer.display_touched(touch(address, false)),
+        }
+        self.execute(self.word(place))?;
         self.advance();
         Ok(true)
     }
 
-    /// The physical address of the word at the head; none where the ring is "not enabled (seen before
+    /// Where the word at the head lies; none where the ring is "not enabled (seen before
     /// code 11), or offsets equal". The codes come in the order "11, then empty check, then 8, 3, 4,
     /// 5, 7, 6", with 7 and 6 of a table word in main memory "after code 3". "A step fetches the word
     /// at start + offset, unfenced." Of translation's refusal the offset is dropped: "Parser refusals keep the head
     /// there."
     #[inline]
-    fn next_word<const IN_MEMORY: bool>(&mut self) -> Result<Option<u32>, Refusal> {
+    fn next_word<const IN_MEMORY: bool>(&mut self) -> Result<Option<Place>, Refusal> {
         let Ring { tail, start, .. } = self.ring;
         let head = self.ring.head_offset();
         if !self.ring.enabled() || head == tail && self.wrong(Fault::EmptyBeforeRange) {
@@ -134,7 +138,8 @@ impl<O: Observer, F: Faults> Gmch<'_, O, F> {
             Err(Refusal::PageProtected) if IN_MEMORY && self.wrong(Fault::FetchReadsProtectedWords) => {
                 self.translate_by(self.open_word(offset as usize / 4096), offset).map(Some)
             }
-            Ok(0x2000_0000..) if self.wrong(Fault::HighFetchRefused) => Err(Refusal::PageAboveMemory),
+            Ok(Place::DisplayCache(_)) if self.wrong(Fault::DisplayFetchRefused) => Err(Refusal::EntryType),
+            Ok(Place::Memory(0x2000_0000..)) if self.wrong(Fault::HighFetchRefused) => Err(Refusal::PageAboveMemory),
             result => result.map(Some),
         }
     }
@@ -193,7 +198,7 @@ impl<O: Observer, F: Faults> Gmch<'_, O, F> {
     /// Where the parser would fetch the word at this offset of the window, or why it would be refused.
     ///
     /// ```
-    /// # use mitrophel::reference::{Gmch, TABLE_WORDS};
+    /// # use mitrophel::reference::{Gmch, Place, TABLE_WORDS};
     /// # use mitrophel::{Board, Record, Refusal};
     /// # let (mut memory, mut table) = (vec![0; 8 << 20], [0; TABLE_WORDS]);
     /// # let mut gmch = Gmch::new(Board::I82810, &mut memory, &mut table, &mut []).expect("8 MiB is a memory");
@@ -204,10 +209,10 @@ impl<O: Observer, F: Faults> Gmch<'_, O, F> {
     /// // The registers are at F0000000h: translation on, and entry 0 at 100000h.
     /// gmch.answer(&Record::write(0xF000_2020, 4, 1, false));
     /// gmch.answer(&Record::write(0xF001_0000, 4, 0x10_0001, false));
-    /// assert_eq!(gmch.fetch_address(0x10), Ok(0x10_0010));
+    /// assert_eq!(gmch.fetch_address(0x10), Ok(Place::Memory(0x10_0010)));
     /// assert_eq!(gmch.fetch_address(0x1000), Err(Refusal::EntryNotValid));
     /// ```
-    pub fn fetch_address(&self, offset: u32) -> Result<u32, Refusal> {
+    pub fn fetch_address(&self, offset: u32) -> Result<Place, Refusal> {
         if offset >= self.window_bytes() {
             return Err(Refusal::OutsideWindow);
         }

@@ -237,23 +237,13 @@ impl<O: Observer, F: Faults> Gmch<'_, O, F> {
         ranges.into_iter().flatten()
     }
 
-    /// "value read, zero-extended (0 for writes)"; "a write's data past its width is ignored".
+    /// An access that reaches main memory.
     #[inline]
     pub(super) fn memory_access(&mut self, address: u32, access: Access) -> Answer {
         let (width, write) = (access.width, access.data.is_some());
         self.observer.touched(Touch { address, width, write, protected: self.protected(address) });
         let at = address as usize;
-        let bytes = &mut self.memory[at..at + width as usize];
-        let value = match (access.data, bytes) {
-            (None, &mut [a]) => u32::from(a),
-            (None, &mut [a, b]) => u32::from(u16::from_le_bytes([a, b])),
-            (None, &mut [a, b, c, d]) => u32::from_le_bytes([a, b, c, d]),
-            (None, _) => 0,
-            (Some(data), bytes) => {
-                bytes.copy_from_slice(&data.to_le_bytes()[..width as usize]);
-                0
-            }
-        };
+        let value = access.carry_out(&mut self.memory[at..at + width as usize]);
         reached(Target::Memory, address, value)
     }
 

@@ -1,7 +1,7 @@
 //! The window: fences and translation (document 01, "Table, fences, ring, interrupts").
 
 use super::routing::Mode;
-use super::{Access, Gmch, Observer, Refused, WordUse, KIB, MIB};
+use super::{Access, Gmch, Observer, Place, Refused, WordUse, KIB, MIB};
 use crate::faults::{Fault, Faults};
 use crate::record::{Answer, Refusal};
 
@@ -98,16 +98,19 @@ impl<O: Observer, F: Faults> Gmch<'_, O, F> {
             false => self.translate::<false>(offset),
             true => self.translate::<true>(offset),
         };
-        let address = match translated {
+        let place = match translated {
             Err(refused @ Refused { refusal: Refusal::PageProtected, .. })
                 if management && self.wrong(Fault::ManagementExemptInWindow) =>
             {
                 let entry = self.table_word(offset as usize / 4096).map_err(|_| refused)?;
-                entry_page(entry) + offset % 4096
+                Place::Memory(entry_page(entry) + offset % 4096)
             }
             result => result?,
         };
-        Ok(self.memory_access(address, access))
+        Ok(match place {
+            Place::Memory(address) => self.memory_access(address, access),
+            Place::DisplayCache(address) => self.display_access(address, access),
+        })
     }
 
     /// What the answer shows of a refused window access: the offset that the refusal has. Only wrong references show
@@ -134,6 +137,10 @@ impl<O: Observer, F: Faults> Gmch<'_, O, F> {
         let zero = self.wrong(Fault::Code3ShowsZero) && refusal == Refusal::TranslationOff
             || self.wrong(Fault::Code9ShowsZero) && refusal == Refusal::FenceIllFormed
             || self.wrong(Fault::WordShowsZero) && own()
+            || self.wrong(Fault::DisplayOffShowsZero) && refusal == Refusal::EntryType && self.has_display()
+            || self.wrong(Fault::DisplayPageShowsZero)
+                && refusal == Refusal::PageAboveMemory
+                && self.names_display(offset)
             || self.wrong(Fault::WriteShowsZero) && access.data.is_some()
             || self.wrong(Fault::CodeReadShowsZero) && code
             || self.wrong(Fault::ManagementShowsZero) && management;
@@ -181,6 +188,11 @@ impl<O: Observer, F: Faults> Gmch<'_, O, F> {
         }
     }
 
+    /// Whether the entry of this offset is of type 01. Only wrong references ask.
+    fn names_display(&self, offset: u32) -> bool {
+        self.table_word(offset as usize / 4096).is_ok_and(|entry| entry >> 1 & 3 == 1)
+    }
+
     /// "2020h keeps 31:12 and bit 0, translation on."
     #[inline]
     pub(super) fn translation_on(&self) -> bool {
@@ -189,7 +201,7 @@ impl<O: Observer, F: Faults> Gmch<'_, O, F> {
 
     /// Where a graphics offset leads, or its refusal with this offset: "The translation's own result must carry it".
     #[inline]
-    pub(super) fn translate<const IN_MEMORY: bool>(&mut self, offset: u32) -> Result<u32, Refused> {
+    pub(super) fn translate<const IN_MEMORY: bool>(&mut self, offset: u32) -> Result<Place, Refused> {
         self.look_up_page::<IN_MEMORY>(offset).map_err(|refusal| Refused { refusal, offset })
     }
 
@@ -197,7 +209,7 @@ impl<O: Observer, F: Faults> Gmch<'_, O, F> {
     /// them, where the table is in main memory, come 7 and 6 of the entry's word, "after code 3 for a lookup". The home
     /// is a parameter so that a run asks for it once and not at each step.
     #[inline]
-    fn look_up_page<const IN_MEMORY: bool>(&mut self, offset: u32) -> Result<u32, Refusal> {
+    fn look_up_page<const IN_MEMORY: bool>(&mut self, offset: u32) -> Result<Place, Refusal> {
         let number = offset as usize / 4096;
         if IN_MEMORY && self.wrong(Fault::WordBeforeTranslationOff) {
             self.reach_word(number, WordUse::Lookup)?;
@@ -206,19 +218,25 @@ impl<O: Observer, F: Faults> Gmch<'_, O, F> {
             return Err(Refusal::TranslationOff);
         }
         if !IN_MEMORY {
+            self.observer.looked_up(self.table[number]);
             return self.translate_by(self.table[number], offset);
         }
         let entry = self.look_up(number);
         if entry == Err(Refusal::PageProtected) && self.wrong(Fault::EntryBeforeWord) {
             self.translate_by(self.open_word(number), offset)?;
         }
-        self.translate_by(entry?, offset)
+        let entry = entry?;
+        self.observer.looked_up(entry);
+        self.translate_by(entry, offset)
     }
 
     /// "the result is page start + o mod 4096", by this entry; the codes come in the order 4, 5, 7, 6.
     #[inline]
-    pub(super) fn translate_by(&self, entry: u32, offset: u32) -> Result<u32, Refusal> {
+    pub(super) fn translate_by(&self, entry: u32, offset: u32) -> Result<Place, Refusal> {
         self.check_entry(entry)?;
+        if self.is_display_type(entry) {
+            return self.display_place(entry_page(entry), offset);
+        }
         let page = if self.wrong(Fault::HighEntryBitsCount) {
             entry & 0xFFFF_F000
         } else if self.wrong(Fault::EntryBit29NotUsed) {
@@ -246,15 +264,28 @@ impl<O: Observer, F: Faults> Gmch<'_, O, F> {
         if self.protected(tested) && !self.wrong(Fault::ProtectionNotChecked) {
             return Err(Refusal::PageProtected);
         }
-        Ok(page + offset % 4096)
+        Ok(Place::Memory(page + offset % 4096))
     }
 
-    /// Codes 4 and 5: "type 2:1 (00, 11 main memory; 01 display cache), valid 0".
+    /// "Entry type 01 reaches it", the display cache.
+    #[inline]
+    fn is_display_type(&self, entry: u32) -> bool {
+        match entry >> 1 & 3 {
+            1 => true,
+            2 => self.wrong(Fault::Type10ReachesDisplay),
+            _ => false,
+        }
+    }
+
+    /// Codes 4 and 5: "type 2:1 (00, 11 main memory; 01 display cache), valid 0". Of type 01 request 11 of document 02
+    /// has "Other kinds answer 5 as before, as type 10 does everywhere", and code 5 where the cache is off.
     #[inline]
     fn check_entry(&self, entry: u32) -> Result<(), Refusal> {
         let invalid = entry & 1 == 0 || entry & 0xC000_0FF8 != 0 && self.wrong(Fault::UnnamedEntryBitsRefused);
         let other_memory = match entry >> 1 & 3 {
-            1 | 2 => true,
+            1 => !self.display_on(),
+            2 if self.wrong(Fault::Type10ReachesDisplay) => !self.display_on(),
+            2 => !self.wrong(Fault::Type10ReachesMemory),
             3 => self.wrong(Fault::Type11Refused),
             _ => false,
         };
@@ -262,10 +293,13 @@ impl<O: Observer, F: Faults> Gmch<'_, O, F> {
         if self.wrong(Fault::Codes4And5Exchanged) {
             codes = (codes.1, codes.0);
         }
+        let display = entry >> 1 & 3 == 1;
         if other_memory && self.wrong(Fault::TypeBeforeValid) {
             Err(codes.1)
-        } else if invalid {
+        } else if invalid && !(display && self.wrong(Fault::InvalidEntryReachesDisplay)) {
             Err(codes.0)
+        } else if display && entry_page(entry) >= 4 * MIB && self.wrong(Fault::DisplayPageBeforeType) {
+            Err(Refusal::PageAboveMemory)
         } else if other_memory {
             Err(codes.1)
         } else {

@@ -7,7 +7,7 @@
 use super::words::{Event, Meets};
 use super::{Random, Watch};
 use mitrophel::faults::Faultless;
-use mitrophel::reference::{Fence, Gmch, Table, TABLE_WORDS};
+use mitrophel::reference::{Fence, Gmch, Place, Table, TABLE_WORDS};
 use mitrophel::{Answer, Board, Record, DISPLAY_BYTES};
 
 const KIB: u32 = 1 << 10;
@@ -1000,8 +1000,12 @@ impl<'m> Generator<'m> {
             let through = self.hub.window_base().wrapping_add(ring.start + offset);
             let management = self.random.one_in(8);
             match self.hub.fetch_address(ring.start + offset) {
-                Ok(address) if self.random.one_in(2) => self.emit(Record::write(address, 4, word, management)),
-                Ok(address) if self.random.one_in(2) => self.emit(Record::master_write(address, 4, word)),
+                Ok(Place::Memory(address)) if self.random.one_in(2) => {
+                    self.emit(Record::write(address, 4, word, management));
+                }
+                Ok(Place::Memory(address)) if self.random.one_in(2) => {
+                    self.emit(Record::master_write(address, 4, word));
+                }
                 _ => self.emit(Record::write(through, 4, word, management)),
             }
             offset = (offset + 4) % ring.bytes();

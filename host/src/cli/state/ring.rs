@@ -5,6 +5,7 @@ use crate::cli::numbers;
 use crate::cli::pair::Hub;
 use crate::cli::survey;
 use crate::cli::told::{self, Tone};
+use mitrophel::reference::Place;
 use mitrophel::trace::REDACTED;
 use mitrophel::Refusal;
 use std::ops::Range;
@@ -103,11 +104,10 @@ fn fetch(hub: &Hub<'_>, guarded: &[Range<u32>], offset: u32) -> Fetched {
     match hub.fetch_address(offset) {
         Err(refusal @ (Refusal::OutsideWindow | Refusal::TranslationOff)) => Fetched::Refused { refusal, entry: 0 },
         _ if survey::hides_word(hub, guarded, entry as usize) => Fetched::Unseen,
-        Ok(address) if guarded.iter().any(|range| range.contains(&address)) => Fetched::Hidden { address },
-        Ok(address) => {
-            let bytes = hub.memory().get(address as usize..).and_then(|bytes| bytes.first_chunk());
-            Fetched::Word { address, word: bytes.copied().map_or(0, u32::from_le_bytes) }
+        Ok(Place::Memory(address)) if guarded.iter().any(|range| range.contains(&address)) => {
+            Fetched::Hidden { address }
         }
+        Ok(place) => Fetched::Word { address: place.address(), word: hub.word(place) },
         Err(refusal) => Fetched::Refused { refusal, entry },
     }
 }
