@@ -40,6 +40,12 @@ impl<O: Observer, F: Faults> Gmch<'_, O, F> {
         matches!(self.board, Board::Dc100 | Board::Dc100Main)
     }
 
+    /// Whether an entry of type 01 can reach a display cache on this board. Only wrong references can without having one.
+    #[inline]
+    pub(super) fn may_reach_display(&self) -> bool {
+        self.has_display() || self.wrong(Fault::DisplayCacheOnKind0) || self.wrong(Fault::DisplayCacheOnKind2)
+    }
+
     /// Whether an entry of type 01 reaches the display cache: "Other kinds answer 5 as before", and "bit 0 of 3000h at 0
     /// means type 01 is code 5".
     ///

@@ -56,22 +56,24 @@ impl<O: Observer, F: Faults> Gmch<'_, O, F> {
     /// which is code 0 with nothing further checked. Count = completed steps". "A parser run gives
     /// target 0, the head register afterwards as address, value 0 and the count."
     pub(super) fn run(&mut self, budget: u32) -> Answer {
-        match self.table_in_memory() {
-            false => self.run_by::<false>(budget),
-            true => self.run_by::<true>(budget),
+        match (self.table_in_memory(), self.may_reach_display()) {
+            (false, false) => self.run_by::<false, false>(budget),
+            (false, true) => self.run_by::<false, true>(budget),
+            (true, false) => self.run_by::<true, false>(budget),
+            (true, true) => self.run_by::<true, true>(budget),
         }
     }
 
-    /// [`Gmch::run`] with the table in this home.
-    fn run_by<const IN_MEMORY: bool>(&mut self, budget: u32) -> Answer {
+    /// [`Gmch::run`] with the table in this home, with a display cache or without.
+    fn run_by<const IN_MEMORY: bool, const DISPLAY: bool>(&mut self, budget: u32) -> Answer {
         let mut answer = Answer::default();
         if budget == 0 && self.wrong(Fault::BudgetZeroChecks) {
-            answer.code = self.next_word::<IN_MEMORY>().map_or_else(Refusal::code, |_| 0);
+            answer.code = self.next_word::<IN_MEMORY, DISPLAY>().map_or_else(Refusal::code, |_| 0);
         }
         // "A run ignores GMS".
         let idle = self.wrong(Fault::RunNeedsGraphics) && !self.smram().graphics_on();
         while answer.count < budget && !idle {
-            match self.step::<IN_MEMORY>() {
+            match self.step::<IN_MEMORY, DISPLAY>() {
                 Ok(true) => answer.count += 1,
                 Ok(false) => break,
                 Err(refusal) => {
@@ -92,8 +94,8 @@ impl<O: Observer, F: Faults> Gmch<'_, O, F> {
 
     /// One step: true if it was completed, false where the run ends by itself.
     #[inline]
-    fn step<const IN_MEMORY: bool>(&mut self) -> Result<bool, Refusal> {
-        let Some(place) = self.next_word::<IN_MEMORY>()? else {
+    fn step<const IN_MEMORY: bool, const DISPLAY: bool>(&mut self) -> Result<bool, Refusal> {
+        let Some(place) = self.next_word::<IN_MEMORY, DISPLAY>()? else {
             return Ok(false);
         };
         let touch = |address, protected| Touch { address, width: 4, write: false, protected };
@@ -112,7 +114,7 @@ impl<O: Observer, F: Faults> Gmch<'_, O, F> {
     /// at start + offset, unfenced." Of translation's refusal the offset is dropped: "Parser refusals keep the head
     /// there."
     #[inline]
-    fn next_word<const IN_MEMORY: bool>(&mut self) -> Result<Option<Place>, Refusal> {
+    fn next_word<const IN_MEMORY: bool, const DISPLAY: bool>(&mut self) -> Result<Option<Place>, Refusal> {
         let Ring { tail, start, .. } = self.ring;
         let head = self.ring.head_offset();
         if !self.ring.enabled() || head == tail && self.wrong(Fault::EmptyBeforeRange) {
@@ -134,9 +136,9 @@ impl<O: Observer, F: Faults> Gmch<'_, O, F> {
             true => self.fenced(offset).map_err(|refused| refused.refusal)?,
             false => offset,
         };
-        match self.translate::<IN_MEMORY>(offset).map_err(|refused| refused.refusal) {
+        match self.translate::<IN_MEMORY, DISPLAY>(offset).map_err(|refused| refused.refusal) {
             Err(Refusal::PageProtected) if IN_MEMORY && self.wrong(Fault::FetchReadsProtectedWords) => {
-                self.translate_by(self.open_word(offset as usize / 4096), offset).map(Some)
+                self.translate_by::<DISPLAY>(self.open_word(offset as usize / 4096), offset).map(Some)
             }
             Ok(Place::DisplayCache(_)) if self.wrong(Fault::DisplayFetchRefused) => Err(Refusal::EntryType),
             Ok(Place::Memory(0x2000_0000..)) if self.wrong(Fault::HighFetchRefused) => Err(Refusal::PageAboveMemory),
@@ -219,6 +221,6 @@ impl<O: Observer, F: Faults> Gmch<'_, O, F> {
         if !self.translation_on() {
             return Err(Refusal::TranslationOff);
         }
-        self.translate_by(self.table_word(offset as usize / 4096)?, offset)
+        self.translate_by::<true>(self.table_word(offset as usize / 4096)?, offset)
     }
 }

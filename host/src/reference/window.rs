@@ -95,8 +95,8 @@ impl<O: Observer, F: Faults> Gmch<'_, O, F> {
         let offset = self.fenced(offset)?;
         let management = matches!(mode, Mode::Processor { management: true, .. });
         let translated = match self.table_in_memory() {
-            false => self.translate::<false>(offset),
-            true => self.translate::<true>(offset),
+            false => self.translate::<false, true>(offset),
+            true => self.translate::<true, true>(offset),
         };
         let place = match translated {
             Err(refused @ Refused { refusal: Refusal::PageProtected, .. })
@@ -201,15 +201,18 @@ impl<O: Observer, F: Faults> Gmch<'_, O, F> {
 
     /// Where a graphics offset leads, or its refusal with this offset: "The translation's own result must carry it".
     #[inline]
-    pub(super) fn translate<const IN_MEMORY: bool>(&mut self, offset: u32) -> Result<Place, Refused> {
-        self.look_up_page::<IN_MEMORY>(offset).map_err(|refusal| Refused { refusal, offset })
+    pub(super) fn translate<const IN_MEMORY: bool, const DISPLAY: bool>(
+        &mut self,
+        offset: u32,
+    ) -> Result<Place, Refused> {
+        self.look_up_page::<IN_MEMORY, DISPLAY>(offset).map_err(|refusal| Refused { refusal, offset })
     }
 
     /// "Graphics offset o reads entry o / 4096". The codes come in the order 3, then the entry's own 4, 5, 7, 6. Between
-    /// them, where the table is in main memory, come 7 and 6 of the entry's word, "after code 3 for a lookup". The home
-    /// is a parameter so that a run asks for it once and not at each step.
+    /// them, where the table is in main memory, come 7 and 6 of the entry's word, "after code 3 for a lookup". The home,
+    /// and whether there may be a display cache, are parameters so that a run asks for them once and not at each step.
     #[inline]
-    fn look_up_page<const IN_MEMORY: bool>(&mut self, offset: u32) -> Result<Place, Refusal> {
+    fn look_up_page<const IN_MEMORY: bool, const DISPLAY: bool>(&mut self, offset: u32) -> Result<Place, Refusal> {
         let number = offset as usize / 4096;
         if IN_MEMORY && self.wrong(Fault::WordBeforeTranslationOff) {
             self.reach_word(number, WordUse::Lookup)?;
@@ -219,22 +222,22 @@ impl<O: Observer, F: Faults> Gmch<'_, O, F> {
         }
         if !IN_MEMORY {
             self.observer.looked_up(self.table[number]);
-            return self.translate_by(self.table[number], offset);
+            return self.translate_by::<DISPLAY>(self.table[number], offset);
         }
         let entry = self.look_up(number);
         if entry == Err(Refusal::PageProtected) && self.wrong(Fault::EntryBeforeWord) {
-            self.translate_by(self.open_word(number), offset)?;
+            self.translate_by::<DISPLAY>(self.open_word(number), offset)?;
         }
         let entry = entry?;
         self.observer.looked_up(entry);
-        self.translate_by(entry, offset)
+        self.translate_by::<DISPLAY>(entry, offset)
     }
 
     /// "the result is page start + o mod 4096", by this entry; the codes come in the order 4, 5, 7, 6.
     #[inline]
-    pub(super) fn translate_by(&self, entry: u32, offset: u32) -> Result<Place, Refusal> {
-        self.check_entry(entry)?;
-        if self.is_display_type(entry) {
+    pub(super) fn translate_by<const DISPLAY: bool>(&self, entry: u32, offset: u32) -> Result<Place, Refusal> {
+        self.check_entry::<DISPLAY>(entry)?;
+        if DISPLAY && self.is_display_type(entry) {
             return self.display_place(entry_page(entry), offset);
         }
         let page = if self.wrong(Fault::HighEntryBitsCount) {
@@ -280,11 +283,11 @@ impl<O: Observer, F: Faults> Gmch<'_, O, F> {
     /// Codes 4 and 5: "type 2:1 (00, 11 main memory; 01 display cache), valid 0". Of type 01 request 11 of document 02
     /// has "Other kinds answer 5 as before, as type 10 does everywhere", and code 5 where the cache is off.
     #[inline]
-    fn check_entry(&self, entry: u32) -> Result<(), Refusal> {
+    fn check_entry<const DISPLAY: bool>(&self, entry: u32) -> Result<(), Refusal> {
         let invalid = entry & 1 == 0 || entry & 0xC000_0FF8 != 0 && self.wrong(Fault::UnnamedEntryBitsRefused);
         let other_memory = match entry >> 1 & 3 {
-            1 => !self.display_on(),
-            2 if self.wrong(Fault::Type10ReachesDisplay) => !self.display_on(),
+            1 => !(DISPLAY && self.display_on()),
+            2 if self.wrong(Fault::Type10ReachesDisplay) => !(DISPLAY && self.display_on()),
             2 => !self.wrong(Fault::Type10ReachesMemory),
             3 => self.wrong(Fault::Type11Refused),
             _ => false,
