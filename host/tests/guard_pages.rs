@@ -8,7 +8,7 @@ mod common;
 use common::compare::{undo, Lists};
 use common::generate::LIST_MEMORY;
 use common::guarded::{ends_of_tables, Guarded, Side, FILL, PAGE};
-use common::{display, lists, seed};
+use common::{blank_display, lists, seed};
 use mitrophel::{call, record, reference, Board, DISPLAY_BYTES};
 
 /// The most bytes of a random list, with room to spare.
@@ -65,11 +65,11 @@ fn a_table_in_memory_stays_inside_memory() {
         let records = record::encode(&script.records);
         for board in Board::ALL.map(Board::number) {
             let (mut expected, mut expected_memory) = (vec![0; records.len()], vec![0; TOP as usize]);
-            let mut lent = display(board);
+            let mut lent = blank_display(board);
             assert_eq!(reference::replay(board, &mut expected_memory, &records, &mut expected, &mut lent), 0);
             memory.whole().fill(0);
             let mut answers = vec![0xA5; records.len()];
-            assert_eq!(call::gmch_replay(board, memory.whole(), &records, &mut answers, &mut display(board)), 0);
+            assert_eq!(call::gmch_replay(board, memory.whole(), &records, &mut answers, &mut blank_display(board)), 0);
             assert!(answers == expected, "board kind {board}, table at {base:X}h: the answers differ");
             assert!(memory.whole() == expected_memory, "board kind {board}, table at {base:X}h: memory differs");
         }
@@ -116,7 +116,7 @@ fn empty_buffers_are_not_followed() {
     let mut memory = Guarded::new(8 << 20);
     for board in Board::ALL.map(Board::number) {
         assert!(call::gmch_replay(board, &mut [], &[], &mut [], &mut []) == 1);
-        assert!(call::gmch_replay(board, memory.whole(), &[], &mut [], &mut display(board)) == 0);
+        assert!(call::gmch_replay(board, memory.whole(), &[], &mut [], &mut blank_display(board)) == 0);
     }
     assert!(memory.whole().iter().all(|&byte| byte == FILL));
 }

@@ -3,7 +3,7 @@
 
 mod common;
 
-use common::{display, MIB};
+use common::{blank_display, MIB};
 use mitrophel::{call, record, reference, replay, Board, Record, Target, WrongArgument};
 
 /// A byte that neither memory nor answers hold by themselves.
@@ -35,7 +35,7 @@ fn writes(count: usize) -> Vec<u8> {
 /// Asks that the call and the reference refuse the arguments and touch nothing.
 fn assert_refused(board: u32, memory: &mut [u8], records: &[u8], answers_length: usize) {
     let mut answers = vec![UNTOUCHED; answers_length];
-    let display = &mut display(board);
+    let display = &mut blank_display(board);
     assert_eq!(call::gmch_replay(board, memory, records, &mut answers, display), 1);
     assert_eq!(reference::replay(board, memory, records, &mut answers, display), 1);
     assert!(answers.iter().all(|&byte| byte == UNTOUCHED), "answers were touched");
@@ -129,7 +129,7 @@ fn memory_of_8_to_520_mib_is_good() {
             Record::read(top, 4, false),
         ]);
         let mut answers = vec![UNTOUCHED; records.len()];
-        assert_eq!(call::gmch_replay(1, &mut memory, &records, &mut answers, &mut display(1)), 0);
+        assert_eq!(call::gmch_replay(1, &mut memory, &records, &mut answers, &mut blank_display(1)), 0);
         let answers: Vec<_> = record::decode_answers(&answers).collect();
         assert_eq!(answers[1], common::reached(Target::Memory, top - 2, 0x8281));
         assert_eq!(answers[2], common::reached(Target::Hub, top, 0));
@@ -144,10 +144,18 @@ fn board_kinds_0_to_3_are_good() {
     for board in 0..4 {
         let mut memory = vec![0; 8 * MIB];
         let mut answers = vec![UNTOUCHED; records.len()];
-        assert_eq!(call::gmch_replay(board, &mut memory, &records, &mut answers, &mut display(board)), 0, "{board}");
+        assert_eq!(
+            call::gmch_replay(board, &mut memory, &records, &mut answers, &mut blank_display(board)),
+            0,
+            "{board}"
+        );
         assert!(record::decode_answers(&answers).all(|answer| answer.target() == Some(Target::Memory)));
         assert_eq!(memory[0x1000..0x1004], 0x1234_5678_u32.to_le_bytes());
-        assert_eq!(reference::replay(board, &mut memory, &records, &mut answers, &mut display(board)), 0, "{board}");
+        assert_eq!(
+            reference::replay(board, &mut memory, &records, &mut answers, &mut blank_display(board)),
+            0,
+            "{board}"
+        );
     }
 }
 
@@ -204,7 +212,7 @@ fn a_call_needs_no_more_stack_than_its_documentation_says() {
         let call = move || {
             let records = record::encode(&[Record::run(7), Record::read(0x1000, 4, false), Record::reset()]);
             let (mut memory, mut answers) = (vec![0; 8 * MIB], vec![0; records.len()]);
-            call::gmch_replay(board, &mut memory, &records, &mut answers, &mut display(board))
+            call::gmch_replay(board, &mut memory, &records, &mut answers, &mut blank_display(board))
         };
         let thread = std::thread::Builder::new().stack_size((72 << 10) + (8 << 10)).spawn(call).expect("a thread");
         assert_eq!(thread.join().expect("the stack is enough"), 0);

@@ -4,10 +4,10 @@ mod common;
 
 use common::compare::{undo, List, Lists};
 use common::isolation::{two_runs, two_runs_on_zeros, Tally};
-use common::{display, seed, Watch, MIB};
+use common::{blank_display, seed, Watch, MIB};
 use mitrophel::faults::{Fault, OneFault};
 use mitrophel::reference::{replay, replay_with, Unobserved};
-use mitrophel::{Board, MOST_MEMORY};
+use mitrophel::{Board, DISPLAY_BYTES, MOST_MEMORY};
 
 /// How many lists the comparison may take to notice a fault. The random comparison itself replays
 /// fifty times as many.
@@ -33,13 +33,23 @@ fn caught(lists: &Lists, list: &List, [memory, display]: [&mut [u8]; 2], fault: 
     caught
 }
 
+/// Lengths of a display cache for the same: request 11 of document 02, "4 MiB for kinds 1 and 3, and of length 0 for the
+/// others; else code 1."
+const DISPLAY_LENGTHS: [usize; 4] = [0, DISPLAY_BYTES, DISPLAY_BYTES + 1, 2 * DISPLAY_BYTES];
+
 /// Whether a replay with this fault has another result than the reference on a memory of this length.
 fn caught_by_length(memory: &mut [u8], fault: Fault) -> bool {
-    Board::ALL.map(Board::number).into_iter().any(|board| {
-        let display = &mut display(board);
-        let result = replay_with(board, memory, &[], &mut [], display, Unobserved, OneFault::new(fault));
-        result != replay(board, memory, &[], &mut [], display)
-    })
+    Board::ALL.map(Board::number).into_iter().any(|board| differs(board, memory, &mut blank_display(board), fault))
+}
+
+/// Whether it has with a display cache of this length.
+fn caught_by_display(memory: &mut [u8], display: &mut [u8], fault: Fault) -> bool {
+    Board::ALL.map(Board::number).into_iter().any(|board| differs(board, memory, display, fault))
+}
+
+fn differs(board: u32, memory: &mut [u8], display: &mut [u8], fault: Fault) -> bool {
+    let result = replay_with(board, memory, &[], &mut [], display, Unobserved, OneFault::new(fault));
+    result != replay(board, memory, &[], &mut [], display)
 }
 
 /// A fault, the first thing that noticed it, and how many did.
@@ -58,8 +68,8 @@ impl Noticed {
     }
 }
 
-/// Each of the wrong references differs from document 01, or from request 3, 5, 6 or 10 of document 02, in one sentence,
-/// which its comment in `faults` states.
+/// Each of the wrong references differs from document 01, or from request 3, 5, 6, 10 or 11 of document 02, in one
+/// sentence, which its comment in `faults` states.
 #[test]
 fn every_wrong_reference_is_caught_by_the_random_comparison() {
     let seed = seed();
@@ -92,7 +102,15 @@ fn every_wrong_reference_is_caught_by_the_random_comparison() {
             noticed.note(caught_by_length(&mut memory[..length], noticed.fault), || format!("{length} bytes"));
         }
     }
-    println!("{:>16} {:>6}  of {LISTS} lists, {LARGE_LISTS} large lists, {} lengths", "first", "times", LENGTHS.len());
+    let mut room = vec![0; 2 * DISPLAY_BYTES];
+    for length in DISPLAY_LENGTHS {
+        for noticed in &mut faults[left..] {
+            let caught = caught_by_display(&mut memory[..8 * MIB], &mut room[..length], noticed.fault);
+            noticed.note(caught, || format!("display {length}"));
+        }
+    }
+    let lengths = LENGTHS.len() + DISPLAY_LENGTHS.len();
+    println!("{:>16} {:>6}  of {LISTS} lists, {LARGE_LISTS} large lists, {lengths} lengths", "first", "times");
     for Noticed { fault, first, times } in &faults {
         println!("{:>16} {times:>6}  {fault:?}", first.as_deref().unwrap_or("never"));
     }
@@ -101,7 +119,7 @@ fn every_wrong_reference_is_caught_by_the_random_comparison() {
 }
 
 /// Faults that open protected memory, for the two runs of demand 3.
-const LEAKS: [Fault; 16] = [
+const LEAKS: [Fault; 19] = [
     Fault::ProtectionNotChecked,
     Fault::ProtectionOfOffset,
     Fault::ManagementExemptInWindow,
@@ -118,6 +136,9 @@ const LEAKS: [Fault; 16] = [
     Fault::ProtectionOfTableBase,
     Fault::EntryBeforeWord,
     Fault::ProtectedWordShown,
+    Fault::DisplayReadFromMemory,
+    Fault::DisplayWriteLandsInMemory,
+    Fault::DisplayFetchReadsMemory,
 ];
 
 /// Those that need more memory.

@@ -9,7 +9,7 @@ mod common;
 use common::compare::{range, undo, Lists};
 use common::guarded::{ends_of_tables, Guarded, Side, PAGE};
 use common::isolation::two_runs_on_zeros;
-use common::{display, lists, ran, reached, refused, refused_at, seed, Coverage, Script, Watch, MIB};
+use common::{blank_display, lists, ran, reached, refused, refused_at, seed, Coverage, Script, Watch, MIB};
 use mitrophel::faults::Faultless;
 use mitrophel::reference::{self, replay_with, Touch};
 use mitrophel::{call, record, replay, Answer, Board, Record, Target, WrongArgument, MOST_MEMORY};
@@ -64,13 +64,13 @@ impl Memories {
         let mut expected = vec![0xA5; records.len()];
         let mut watch = Watch::default();
         let memory = &mut self.expected[..tom];
-        let (mut display_lent, watching) = (display(board), &mut watch);
+        let (mut display_lent, watching) = (blank_display(board), &mut watch);
         let result = replay_with(board, memory, &records, &mut expected, &mut display_lent, watching, Faultless);
         assert_eq!(result, 0);
         for side in SIDES {
             let mut actual = vec![0x5A; records.len()];
             let lent = self.lent.part(tom, side);
-            assert_eq!(call::gmch_replay(board, lent, &records, &mut actual, &mut display(board)), 0);
+            assert_eq!(call::gmch_replay(board, lent, &records, &mut actual, &mut blank_display(board)), 0);
             let pairs = record::decode_answers(&expected).zip(record::decode_answers(&actual));
             for (record, (expected, actual)) in script.records.iter().zip(pairs) {
                 assert_eq!(actual, expected, "board {board}, {record}");
@@ -647,7 +647,7 @@ fn assert_refused(memory: &mut [u8]) {
     }
     for board in ALL {
         let mut answers = vec![0xC3; records.len()];
-        let display = &mut display(board);
+        let display = &mut blank_display(board);
         assert_eq!(call::gmch_replay(board, memory, &records, &mut answers, display), 1, "{length} bytes");
         assert_eq!(reference::replay(board, memory, &records, &mut answers, display), 1, "{length} bytes");
         assert!(answers.iter().all(|&byte| byte == 0xC3), "{length} bytes: answers were touched");
@@ -703,7 +703,7 @@ fn lengths_far_above_1_gib_are_refused() {
 }
 
 /// Random lists on 1 GiB: every answer and every byte of memory agree. On every board every code that can be has been
-/// met, and every place near the top of memory; code 7 was never an entry's.
+/// met, and every place near the top of memory; code 7 was never that of an entry with a page of main memory.
 #[test]
 fn call_and_reference_agree_on_the_largest_memory() {
     let mut coverage = Coverage::default();
@@ -713,8 +713,8 @@ fn call_and_reference_agree_on_the_largest_memory() {
     assert_eq!(coverage.top.entries_above, 0, "code 7 of an entry");
     for (board, codes) in Board::ALL.into_iter().zip(coverage.codes) {
         for (code, &count) in codes.iter().enumerate() {
-            // Code 1 is the call's own result. Code 7 is a table word's in main memory.
-            let possible = code != 1 && (code != 7 || board.table_in_memory());
+            // Code 1 is the call's own result. Code 7 is a table word's in main memory, or an entry's of type 01.
+            let possible = code != 1 && (code != 7 || board.table_in_memory() || board.display_bytes() != 0);
             assert_eq!(count > 0, possible, "code {code}, board {board}");
         }
     }

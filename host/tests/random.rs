@@ -8,9 +8,9 @@ use mitrophel::{call, reference, Board, DISPLAY_BYTES};
 use std::time::Instant;
 
 /// Demand 2 as a test: "Each call is a cold start, replays all records in order and returns 0", and
-/// every answer and every byte of memory is what document 01 and requests 3, 5 and 10 of document 02 say. On every
-/// board every code and every write of a power state must have been met, and so must every kind, target, rule and event,
-/// and every place of a refusal.
+/// every answer and every byte of both memories is what document 01 and requests 3, 5, 10 and 11 of document 02 say. On
+/// every board every code, every write of a power state and all of a display cache must have been met, and so must every
+/// kind, target, rule and event, and every place of a refusal.
 #[test]
 fn call_and_reference_agree_on_random_lists() {
     let started = Instant::now();

@@ -107,10 +107,12 @@ impl<O: Observer, F: Faults> Gmch<'_, O, F> {
         let value = if in_memory {
             self.memory_access(address, access).value
         } else {
-            self.observer.display_touched(Touch { address, width, write, protected: false });
             let at = address as usize;
             // Only wrong references go past the end.
-            self.display.get_mut(at..at + width as usize).map_or(0, |bytes| access.carry_out(bytes))
+            self.display.get_mut(at..at + width as usize).map_or(0, |bytes| {
+                self.observer.display_touched(Touch { address, width, write, protected: false });
+                access.carry_out(bytes)
+            })
         };
         let target = if self.wrong(Fault::DisplayAnsweredAsMemory) { Target::Memory } else { Target::DisplayCache };
         let shown = if self.wrong(Fault::DisplayAddressOfPage) { address & !0xFFF } else { address };

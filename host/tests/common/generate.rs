@@ -1,4 +1,4 @@
-//! Random lists of records that reach the corners of document 01 and of requests 3, 5, 6 and 10 of document 02.
+//! Random lists of records that reach the corners of document 01 and of requests 3, 5, 6, 10 and 11 of document 02.
 //!
 //! A list is made while the reference replays it, so that each record can aim at the state that it
 //! will meet: at the borders of the map as they stand, at entries and fences that are set, at the
@@ -126,6 +126,8 @@ impl<'m> Generator<'m> {
             window_bytes: self.hub.window_bytes(),
             fences: std::array::from_fn(|number| self.hub.fence(number).map_or(0, |fence| fence.0)),
             pm_cs: u16::from_le_bytes([0xE0, 0xE1].map(|at| self.hub.config_byte(1, at).unwrap_or(0))),
+            display_on: self.hub.display_on(),
+            display_registers: [0x3000, 0x3001, 0x3002].map(|at| self.hub.register(at).unwrap_or(0) as u8),
         };
         self.hub.observer().words.meets = meets;
         let answer = self.hub.answer(&record);
@@ -163,6 +165,10 @@ impl<'m> Generator<'m> {
         for _ in 0..self.random.below(4) {
             self.write_fence();
         }
+        if self.random.one_in(2) {
+            let on = self.random.word() & 0xFE | 1;
+            self.register_write(0x3000, 1, on);
+        }
         self.set_ring();
         self.place_instructions();
         if self.random.one_in(2) {
@@ -182,7 +188,7 @@ impl<'m> Generator<'m> {
         if self.table_in_memory() && self.random.one_in(8) {
             return self.move_table();
         }
-        match self.random.below(68) {
+        match self.random.below(70) {
             0..=8 => self.access_window(),
             9..=14 => self.access_border(),
             15..=18 => self.access_memory(),
@@ -194,7 +200,11 @@ impl<'m> Generator<'m> {
             33..=34 => self.place_instructions(),
             35..=38 => self.run(),
             39..=41 => self.access_interrupts(),
-            42..=43 => self.access_registers(),
+            42 => self.access_registers(),
+            43 => match self.random.below(3) {
+                0 => self.access_registers(),
+                _ => self.access_display_registers(),
+            },
             44..=46 => self.access_configuration(),
             47..=48 => self.read_smram(),
             49 => {
@@ -219,6 +229,7 @@ impl<'m> Generator<'m> {
             58..=62 => self.parse(),
             63..=65 => self.access_owned(),
             66 => self.refuse_after_fencing(),
+            67..=68 => self.use_display(),
             _ => self.reset(),
         }
     }
@@ -261,7 +272,19 @@ impl<'m> Generator<'m> {
             if self.random.one_in(2) {
                 self.config_read(1, 0xE0, 4);
             }
+            if self.random.one_in(2) {
+                self.read_after_reset();
+            }
         }
+    }
+
+    /// The three registers of the display cache, as a reset left them or as the scene after it set them, and a byte of
+    /// the cache.
+    fn read_after_reset(&mut self) {
+        for offset in 0x3000..0x3003 {
+            self.register_read(offset);
+        }
+        self.use_display();
     }
 
     // Configuration -----------------------------------------------------------------------------
@@ -628,9 +651,28 @@ impl<'m> Generator<'m> {
             _ => self.random.below(tom),
         };
         let memory_type = self.random.pick(&[0, 0, 0, 0, 0, 3, 3, 1, 2]);
+        let page = if memory_type == 1 && self.random.one_in(2) { self.display_page() } else { page };
         let valid = u32::from(!self.random.one_in(8));
         let noise = if self.random.one_in(3) { self.random.word() & 0xC000_0FF8 } else { 0 };
         page & 0x3FFF_F000 | memory_type << 1 | valid | noise
+    }
+
+    /// A page of a display cache: anywhere in it, where main memory can be protected, at its ends, or past its end.
+    fn display_page(&mut self) -> u32 {
+        const END: u32 = DISPLAY_BYTES as u32;
+        let protected: Vec<_> = self.hub.protected_ranges().filter(|range| range.start < END).collect();
+        match self.random.below(12) {
+            0 => 0xA_0000 + self.random.below(128 * KIB),
+            1 => self.random.pick(&[0, 0, PAGE, END - 2 * PAGE]),
+            2 | 3 => END - PAGE,
+            4 => END,
+            5 => END + self.random.below(4 * MIB),
+            6 => self.random.pick(&[END + PAGE, 2 * END, 0x3FFF_F000, self.hub.tom()]),
+            7 if !protected.is_empty() => {
+                self.random.pick(&protected.iter().map(|range| range.start).collect::<Vec<_>>())
+            }
+            _ => self.random.below(END),
+        }
     }
 
     fn write_entry(&mut self) {
@@ -702,6 +744,70 @@ impl<'m> Generator<'m> {
         self.store_entry(Fence(fence).tiled(offset) / PAGE, entry);
         for _ in 0..2 + self.random.below(2) {
             self.access(self.hub.window_base().wrapping_add(offset));
+        }
+    }
+
+    // The display cache -------------------------------------------------------------------------
+
+    /// An access to the three registers, to the byte after them, or to some of them at once, with what they then read.
+    fn access_display_registers(&mut self) {
+        let (offset, width) = self.random.pick(&[
+            (0x3000, 1),
+            (0x3000, 1),
+            (0x3001, 1),
+            (0x3001, 1),
+            (0x3002, 1),
+            (0x3002, 1),
+            (0x3003, 1),
+            (0x3000, 2),
+            (0x3001, 2),
+            (0x3002, 2),
+            (0x3000, 4),
+        ]);
+        if self.random.one_in(3) {
+            let management = self.random.one_in(4);
+            self.emit(Record::read(self.hub.registers_base().wrapping_add(offset), width, management));
+        } else {
+            let data = self.random.word();
+            self.register_write(offset, width, data);
+        }
+        if self.random.one_in(2) {
+            let offset = self.random.pick(&[0x3000, 0x3001, 0x3002]);
+            self.register_read(offset);
+        }
+    }
+
+    /// The display cache on or off, and entries of type 01 with accesses and fetches by them.
+    fn use_display(&mut self) {
+        if self.random.one_in(2) {
+            self.access_display_registers();
+        }
+        if !self.hub.display_on() && !self.random.one_in(4) {
+            let noise = self.random.word() & 0xFE;
+            self.register_write(0x3000, 1, 1 | noise);
+        }
+        let number = self.window_page() % TABLE_WORDS as u32;
+        let valid = u32::from(!self.random.one_in(8));
+        let noise = if self.random.one_in(4) { self.random.word() & 0xC000_0FF8 } else { 0 };
+        let entry = self.display_page() & 0x3FFF_F000 | 2 | valid | noise;
+        self.store_entry(number, entry);
+        for _ in 0..2 + self.random.below(3) {
+            let offset = self.random.pick(&[0, PAGE - 4, PAGE - 1]) + self.random.below(4);
+            let offset = if self.random.one_in(2) { self.random.below(PAGE) } else { offset % PAGE };
+            self.access(self.hub.window_base().wrapping_add(number * PAGE + offset));
+        }
+        if self.random.one_in(2) {
+            let word = instruction(self.random.word());
+            self.emit(Record::write(self.hub.window_base().wrapping_add(number * PAGE), 4, word, false));
+            self.fetch_by(number);
+        }
+        if self.random.one_in(6) {
+            // Main memory at the same address.
+            let address = (entry & 0x3FFF_F000) + self.random.below(PAGE);
+            self.access(address);
+        }
+        if self.random.one_in(8) {
+            self.access_display_registers();
         }
     }
 
@@ -842,15 +948,19 @@ impl<'m> Generator<'m> {
     }
 
     fn register_read(&mut self, offset: u32) {
-        let width = if (0x20A0..0x20B0).contains(&offset) { 2 } else { 4 };
+        let width = match offset {
+            0x20A0..0x20B0 => 2,
+            0x3000..0x3004 => 1,
+            _ => 4,
+        };
         self.emit(Record::read(self.hub.registers_base().wrapping_add(offset), width, false));
     }
 
     /// A register access that may be wide, narrow, off by some bytes or at an unlisted offset.
     fn access_registers(&mut self) {
-        const OFFSETS: [u32; 20] = [
+        const OFFSETS: [u32; 24] = [
             0x2000, 0x201C, 0x2020, 0x2024, 0x2030, 0x2034, 0x2038, 0x203C, 0x2040, 0x209C, 0x20A0, 0x20A4, 0x20A8,
-            0x20AC, 0x20B0, 0xFFFC, 0x1_0000, 0x1_FFFC, 0x2_0000, 0x7_FFFC,
+            0x20AC, 0x20B0, 0x2FFC, 0x3000, 0x3000, 0x3004, 0xFFFC, 0x1_0000, 0x1_FFFC, 0x2_0000, 0x7_FFFC,
         ];
         let offset = match self.random.below(8) {
             0 => self.random.below(512 * KIB),
@@ -924,6 +1034,8 @@ impl<'m> Generator<'m> {
                 0 => self.entry(),
                 1 => self.entry() & !0x06 | 1,
                 2 => continue,
+                // A display cache's page.
+                4 if self.hub.display_on() => self.random.below(DISPLAY_BYTES as u32) & !(PAGE - 1) | 3,
                 // A large memory's last page.
                 3 if self.hub.tom() >= 64 * MIB => (self.hub.tom() - PAGE) | 1,
                 _ => self.random.below(self.hub.usable_top()) & !(PAGE - 1) | 1,

@@ -7,7 +7,8 @@
 //! apart. The rest of the list, the body, is demand 3's list. The reference, which replays the first
 //! run, says which accesses land in protected memory. Where the table is in main memory, request 10 of
 //! document 02 has demand 3 read "table words in unprotected memory": these are bytes of unprotected
-//! memory, which is equal at the lock.
+//! memory, which is equal at the lock. Request 11: "Demand 3 counts this memory", the display cache, "as
+//! unprotected, equal at the start"; it is equal at the end, too.
 
 use super::compare::{range, undo};
 use super::generate::{board, pristine_display, pristine_memory, table, Generator};
@@ -38,6 +39,8 @@ pub struct Tally {
     /// Writes of a power state that met 00 and that met 11, and those that were discarded.
     pub power_states: [u64; 2],
     pub discarded_states: u64,
+    /// Accesses and fetches that reached the display cache.
+    pub display: u64,
     /// Parser runs that completed a step.
     pub runs: u64,
 }
@@ -129,8 +132,7 @@ fn trials_on(
     Ok(tally)
 }
 
-/// Memory before a trial; as the reference leaves it; as each of the two runs leaves it. The display cache likewise:
-/// request 11 of document 02, "Demand 3 counts this memory as unprotected, equal at the start."
+/// Memory before a trial; as the reference leaves it; as each of the two runs leaves it. The display cache likewise.
 struct Memories {
     /// The length of every trial's memory, where it is not left to the trial.
     tom: Option<usize>,
@@ -222,6 +224,7 @@ impl Trial {
         let Generator { records, answers, mut random, .. } = generator;
         tally.count_body(&answers[prefix..]);
         tally.protected_words += watch.coverage.protected_words() - prefix_coverage.protected_words();
+        tally.display += watch.coverage.display.reached() - prefix_coverage.display.reached();
         let (shown, before) = (watch.coverage.places.shown(), prefix_coverage.places.shown());
         for (count, (shown, before)) in tally.shown_offsets.iter_mut().zip(shown.into_iter().zip(before)) {
             *count += shown - before;

@@ -3,6 +3,7 @@
 #![allow(dead_code)]
 
 pub mod compare;
+pub mod display;
 pub mod generate;
 #[cfg(all(target_os = "linux", target_arch = "x86_64"))]
 pub mod guarded;
@@ -12,6 +13,7 @@ pub mod power;
 pub mod top;
 pub mod words;
 
+use display::Display;
 use mitrophel::reference::{Observer, Rule, TableWord, Touch};
 use mitrophel::{call, record, reference, Answer, Board, Record, Target};
 use places::Places;
@@ -97,6 +99,9 @@ pub struct Watch {
     last: Option<Touch>,
     /// Every write of the list to the display cache.
     pub display_writes: Vec<Touch>,
+    /// Where the record touched it last, and the entry that it looked up last.
+    display_touch: Option<Touch>,
+    entry: Option<u32>,
     /// The board's number.
     pub board: usize,
     pub words: Words,
@@ -122,7 +127,13 @@ impl Observer for Watch {
         }
     }
 
+    fn looked_up(&mut self, entry: u32) {
+        self.entry = Some(entry);
+        self.display_touch = None;
+    }
+
     fn display_touched(&mut self, touch: Touch) {
+        self.display_touch = Some(touch);
         if touch.write {
             self.display_writes.push(touch);
         }
@@ -130,8 +141,11 @@ impl Observer for Watch {
 
     fn answered(&mut self, record: &Record, answer: &Answer) {
         let landing = self.last.take();
+        let (entry, touch) = (self.entry.take(), self.display_touch.take());
         let (meets, rule, word) = (&self.words.meets, self.words.rule(), self.words.word());
-        self.coverage.top.note(self.board, &Met { meets, rule, word, landing, record, answer });
+        self.coverage.top.note(self.board, &Met { meets, rule, word, entry, landing, record, answer });
+        let written = !self.display_writes.is_empty();
+        self.coverage.display.note(self.board, &display::Met { meets, rule, entry, touch, written, record, answer });
         // A table word may have been touched last, or only.
         self.landings.push(landing.filter(|_| answer.target == Target::Memory.number()));
         if answer.code != 0 && self.words.by_window() {
@@ -146,7 +160,8 @@ impl Observer for Watch {
     }
 }
 
-/// How often each kind, code, target, rule and event was seen, each place of a refusal, and each write of a power state.
+/// How often each kind, code, target, rule and event was seen, each place of a refusal, each write of a power state, and
+/// each thing that can be met of a display cache.
 #[derive(Clone, Default)]
 pub struct Coverage {
     /// By kind; number 0 counts the records of no kind.
@@ -158,6 +173,7 @@ pub struct Coverage {
     pub events: [u64; Event::ALL.len()],
     pub places: Places,
     pub power: Power,
+    pub display: Display,
     /// Counted by itself: only the largest memory can be asked for all of it.
     pub top: Top,
 }
@@ -170,7 +186,7 @@ impl Coverage {
     fn counts(&self) -> impl Iterator<Item = &u64> {
         let codes = self.codes.iter().flatten();
         let counts = self.kinds.iter().chain(codes).chain(&self.targets).chain(&self.rules).chain(&self.events);
-        counts.chain(self.places.counts()).chain(self.power.counts())
+        counts.chain(self.places.counts()).chain(self.power.counts()).chain(self.display.counts())
     }
 
     fn counts_mut(&mut self) -> impl Iterator<Item = &mut u64> {
@@ -181,6 +197,7 @@ impl Coverage {
             .chain(&mut self.events)
             .chain(self.places.counts_mut())
             .chain(self.power.counts_mut())
+            .chain(self.display.counts_mut())
     }
 
     /// What each of the counts is of; none for what cannot be. Code 1 is the call's own result and is in no answer.
@@ -194,7 +211,8 @@ impl Coverage {
         names.extend(Rule::ALL.iter().map(Rule::to_string));
         names.extend(Event::ALL.iter().map(Event::to_string));
         let names = names.into_iter().map(|name| Some(name).filter(|name| !name.starts_with("code 1,")));
-        names.chain(Places::names()).chain(Power::names().into_iter().map(Some)).collect()
+        let names = names.chain(Places::names()).chain(Power::names().into_iter().map(Some));
+        names.chain(Display::names()).collect()
     }
 
     /// Each count with its name.
@@ -229,14 +247,14 @@ impl fmt::Display for Coverage {
 }
 
 /// A display cache of the length that this board is lent, all zero.
-pub fn display(board: u32) -> Vec<u8> {
+pub fn blank_display(board: u32) -> Vec<u8> {
     vec![0; Board::from_number(board).map_or(0, Board::display_bytes)]
 }
 
 /// [`replay_with_display`] with a display cache of zeros, where the board has one.
 #[track_caller]
 pub fn replay_both(board: u32, memory: &mut [u8], records: &[Record]) -> Vec<Answer> {
-    replay_with_display(board, memory, records, &mut display(board))
+    replay_with_display(board, memory, records, &mut blank_display(board))
 }
 
 /// Replays the records through the proved call and through the reference, asks that both agree in

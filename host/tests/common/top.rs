@@ -15,6 +15,8 @@ pub struct Met<'a> {
     pub meets: &'a Meets,
     pub rule: Option<Rule>,
     pub word: Option<TableWord>,
+    /// The entry that it looked up, a run's last.
+    pub entry: Option<u32>,
     pub landing: Option<Touch>,
     pub record: &'a Record,
     pub answer: &'a Answer,
@@ -102,7 +104,8 @@ fn words(met: &Met) -> [(&'static str, bool); WORDS] {
     ]
 }
 
-/// How often each place was met on a memory above 512 MiB, on each board, and how often code 7 was given to an entry.
+/// How often each place was met on a memory above 512 MiB, on each board, and how often code 7 was given to an entry that
+/// names a page of main memory.
 #[derive(Clone, Default)]
 pub struct Top {
     places: [[u64; PLACES]; Board::ALL.len()],
@@ -121,7 +124,8 @@ impl Top {
         for (count, (_, holds)) in self.words[board].iter_mut().zip(words(met)) {
             *count += u64::from(holds);
         }
-        self.entries_above += u64::from(met.answer.code == 7 && !met.word_refused());
+        let of_memory = met.entry.is_some_and(|entry| entry >> 1 & 3 != 1);
+        self.entries_above += u64::from(met.answer.code == 7 && !met.word_refused() && of_memory);
     }
 
     pub fn add(&mut self, other: &Top) {
@@ -139,6 +143,7 @@ impl Top {
             meets: &Meets::default(),
             rule: None,
             word: None,
+            entry: None,
             landing: None,
             record: &Record::default(),
             answer: &Answer::default(),

@@ -87,6 +87,9 @@ pub struct Meets {
     pub fences: [u32; 8],
     /// Device 1's register E0h.
     pub pm_cs: u16,
+    /// Whether type 01 reaches a display cache, and 3000h to 3002h, which are 0 where they are not listed.
+    pub display_on: bool,
+    pub display_registers: [u8; 3],
 }
 
 /// Counts the [`Event`]s of one list.
