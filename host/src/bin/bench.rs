@@ -18,9 +18,11 @@ const REGISTERS: u32 = 0xF000_0000;
 const PAGE: u32 = 4096;
 /// Where a table in main memory lies: past the pages that the loads map.
 const TABLE: u32 = 7 << 20;
-/// The boards of the loads: one with a private table, and one with its table in main memory.
+/// The boards of the loads: one with a private table, one with its table in main memory, and one with a private table and
+/// a display cache.
 const PRIVATE: Board = Board::I82810;
 const MAIN: Board = Board::I82810Main;
+const CACHED: Board = Board::Dc100;
 
 /// splitmix64
 struct Random(u64);
@@ -48,6 +50,7 @@ struct Load {
     name: &'static str,
     unit: &'static str,
     board: Board,
+    /// A display cache begins as main memory does.
     memory: fn(&mut Random) -> Vec<u8>,
     records: Vec<Record>,
 }
@@ -62,7 +65,8 @@ fn register(offset: u32, data: u32) -> Record {
 }
 
 /// Graphics on, translation on, and as many pages of the window mapped one after the other from
-/// 1 MiB on, around the memory's end. At most 1,536 pages leave a table in main memory alone.
+/// 1 MiB on, around the memory's end. At most 1,536 pages leave a table in main memory alone. Of a board that has a
+/// display cache they are the cache's, from 0 on, around its end.
 fn setup(board: Board, pages: u32) -> Vec<Record> {
     let mut records = Vec::new();
     config(&mut records, 0, 0x70, 1, 0x40);
@@ -70,9 +74,16 @@ fn setup(board: Board, pages: u32) -> Vec<Record> {
     config(&mut records, 1, 0x14, 4, REGISTERS);
     config(&mut records, 1, 0x04, 1, 0x06);
     records.push(register(0x2020, if board.table_in_memory() { TABLE | 1 } else { 1 }));
+    let cached = board.display_bytes() as u32;
+    if cached != 0 {
+        records.push(Record::write(REGISTERS + 0x3000, 1, 1, false));
+    }
     for page in 0..pages {
-        let physical = (1 << 20) + page * PAGE % (7 << 20);
-        records.push(register(0x1_0000 + 4 * page, physical | 1));
+        let entry = match cached {
+            0 => (1 << 20) + page * PAGE % (7 << 20) | 1,
+            bytes => page * PAGE % bytes | 0b011,
+        };
+        records.push(register(0x1_0000 + 4 * page, entry));
     }
     records
 }
@@ -211,6 +222,11 @@ fn loads() -> Vec<Load> {
         runs("mixed opcodes, budget 1, table in memory", MAIN, mixed_opcodes, 1, count),
         runs("mixed opcodes, whole ring, table in memory", MAIN, mixed_opcodes, u32::MAX, 2),
         table_writes("table writes, table in memory", MAIN, random),
+        window_reads("window reads, no fence, display cache", CACHED, &[], random),
+        window_reads("window reads, eight fences, display cache", CACHED, &fences, random),
+        runs("no-ops, budget 1, display cache", CACHED, no_ops, 1, count),
+        runs("no-ops, whole ring, display cache", CACHED, no_ops, u32::MAX, 2),
+        runs("mixed opcodes, whole ring, display cache", CACHED, mixed_opcodes, u32::MAX, 2),
     ]
 }
 
@@ -236,19 +252,19 @@ impl Bench {
         let records = record::encode(&load.records);
         // Both are copies: fresh zeros are all one page until they are written, and reading them cools no cache.
         let (mut memory, mut other) = (pristine.clone(), pristine.clone());
-        let (mut display, mut other_display) =
-            (vec![0; load.board.display_bytes()], vec![0; load.board.display_bytes()]);
+        let display_lent = &pristine[..load.board.display_bytes()];
+        let (mut display, mut other_display) = (display_lent.to_vec(), display_lent.to_vec());
         let mut answers = vec![0; records.len()];
         let mut other_answers = answers.clone();
         let mut best = (Duration::MAX, Duration::MAX);
         let mut without_better = 0;
         for round in 0..=10 * self.rounds {
-            self.prepare(caches, &memory);
+            self.prepare(caches, [&memory, &display]);
             let started = Instant::now();
             assert_eq!(call::gmch_replay(board, &mut memory, &records, &mut answers, &mut display), 0);
             let proved = started.elapsed();
 
-            self.prepare(caches, &other);
+            self.prepare(caches, [&other, &other_display]);
             let started = Instant::now();
             let result = reference::replay(board, &mut other, &records, &mut other_answers, &mut other_display);
             let plain = started.elapsed();
@@ -256,7 +272,8 @@ impl Bench {
             assert_eq!(result, 0);
             if round == 0 {
                 // The first round warms and is not counted.
-                assert!(answers == other_answers && memory == other, "the two replays differ: {}", load.name);
+                let same = answers == other_answers && memory == other && display == other_display;
+                assert!(same, "the two replays differ: {}", load.name);
                 continue;
             }
             without_better = if proved < best.0 || plain < best.1 { 0 } else { without_better + 1 };
@@ -268,11 +285,13 @@ impl Bench {
         best
     }
 
-    /// Reads the memory, or so much else that the caches have forgotten it.
-    fn prepare(&mut self, caches: Caches, memory: &[u8]) {
+    /// Reads the memory and the display cache, or so much else that the caches have forgotten them.
+    fn prepare(&mut self, caches: Caches, memories: [&[u8]; 2]) {
         match caches {
             Caches::Warm => {
-                black_box(memory.iter().step_by(64).fold(0, |sum: u8, &byte| sum.wrapping_add(byte)));
+                for memory in memories {
+                    black_box(memory.iter().step_by(64).fold(0, |sum: u8, &byte| sum.wrapping_add(byte)));
+                }
             }
             Caches::Cold => {
                 for word in self.eviction.iter_mut().step_by(8) {
@@ -291,7 +310,8 @@ fn units(load: &Load) -> u64 {
         "call" => return 1,
         _ => {}
     }
-    let (mut memory, mut display) = ((load.memory)(&mut Random(1)), vec![0; load.board.display_bytes()]);
+    let mut memory = (load.memory)(&mut Random(1));
+    let mut display = memory[..load.board.display_bytes()].to_vec();
     let records = record::encode(&load.records);
     let mut answers = vec![0; records.len()];
     reference::replay(load.board.number(), &mut memory, &records, &mut answers, &mut display);

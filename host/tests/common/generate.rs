@@ -5,7 +5,7 @@
 //! words that the ring will fetch. The reference's answers are the list's expected answers.
 
 use super::words::{Event, Meets};
-use super::{Random, Watch};
+use super::{register_width, Random, Watch};
 use mitrophel::faults::Faultless;
 use mitrophel::reference::{Fence, Gmch, Place, Table, TABLE_WORDS};
 use mitrophel::{Answer, Board, Record, DISPLAY_BYTES};
@@ -948,12 +948,7 @@ impl<'m> Generator<'m> {
     }
 
     fn register_read(&mut self, offset: u32) {
-        let width = match offset {
-            0x20A0..0x20B0 => 2,
-            0x3000..0x3004 => 1,
-            _ => 4,
-        };
-        self.emit(Record::read(self.hub.registers_base().wrapping_add(offset), width, false));
+        self.emit(Record::read(self.hub.registers_base().wrapping_add(offset), register_width(offset), false));
     }
 
     /// A register access that may be wide, narrow, off by some bytes or at an unlisted offset.

@@ -330,13 +330,11 @@ impl Script {
     }
 
     pub fn register_write(&mut self, offset: u32, data: u32) -> usize {
-        let width = if (0x20A0..0x20B0).contains(&offset) { 2 } else { 4 };
-        self.push(Record::write(Script::REGISTERS + offset, width, data, false))
+        self.push(Record::write(Script::REGISTERS + offset, register_width(offset), data, false))
     }
 
     pub fn register_read(&mut self, offset: u32) -> usize {
-        let width = if (0x20A0..0x20B0).contains(&offset) { 2 } else { 4 };
-        self.push(Record::read(Script::REGISTERS + offset, width, false))
+        self.push(Record::read(Script::REGISTERS + offset, register_width(offset), false))
     }
 
     pub fn entry(&mut self, number: u32, data: u32) -> usize {
@@ -373,6 +371,15 @@ impl Script {
     #[track_caller]
     pub fn replay_on(&self, memory: &mut [u8]) -> Vec<Answer> {
         replay_both(0, memory, &self.records)
+    }
+}
+
+/// The width of the memory-mapped register at this offset.
+pub fn register_width(offset: u32) -> u8 {
+    match offset {
+        0x20A0..0x20B0 => 2,
+        0x3000..0x3004 => 1,
+        _ => 4,
     }
 }
 
