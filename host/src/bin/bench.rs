@@ -80,8 +80,8 @@ fn setup(board: Board, pages: u32) -> Vec<Record> {
     }
     for page in 0..pages {
         let entry = match cached {
-            0 => (1 << 20) + page * PAGE % (7 << 20) | 1,
-            bytes => page * PAGE % bytes | 0b011,
+            0 => ((1 << 20) + page * PAGE % (7 << 20)) | 1,
+            bytes => (page * PAGE % bytes) | 0b011,
         };
         records.push(register(0x1_0000 + 4 * page, entry));
     }
