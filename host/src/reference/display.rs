@@ -129,7 +129,7 @@ impl<O: Observer, F: Faults> Gmch<'_, O, F> {
     /// assert_eq!(gmch.word(Place::Memory(0x1000)), 0x0101_0101);
     /// assert_eq!(gmch.word(Place::DisplayCache(0x1000)), 0x0606_0606);
     /// ```
-    #[inline]
+    #[inline(always)]
     pub fn word(&self, place: Place) -> u32 {
         match place {
             Place::Memory(address) => self.word_at(address),

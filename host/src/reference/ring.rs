@@ -93,7 +93,7 @@ impl<O: Observer, F: Faults> Gmch<'_, O, F> {
     }
 
     /// One step: true if it was completed, false where the run ends by itself.
-    #[inline]
+    #[inline(always)]
     fn step<const IN_MEMORY: bool, const DISPLAY: bool>(&mut self) -> Result<bool, Refusal> {
         let Some(place) = self.next_word::<IN_MEMORY, DISPLAY>()? else {
             return Ok(false);
@@ -113,7 +113,7 @@ impl<O: Observer, F: Faults> Gmch<'_, O, F> {
     /// 5, 7, 6", with 7 and 6 of a table word in main memory "after code 3". "A step fetches the word
     /// at start + offset, unfenced." Of translation's refusal the offset is dropped: "Parser refusals keep the head
     /// there."
-    #[inline]
+    #[inline(always)]
     fn next_word<const IN_MEMORY: bool, const DISPLAY: bool>(&mut self) -> Result<Option<Place>, Refusal> {
         let Ring { tail, start, .. } = self.ring;
         let head = self.ring.head_offset();

@@ -94,9 +94,11 @@ impl<O: Observer, F: Faults> Gmch<'_, O, F> {
         }
         let offset = self.fenced(offset)?;
         let management = matches!(mode, Mode::Processor { management: true, .. });
-        let translated = match self.table_in_memory() {
-            false => self.translate::<false, true>(offset),
-            true => self.translate::<true, true>(offset),
+        let translated = match (self.table_in_memory(), self.may_reach_display()) {
+            (false, false) => self.translate::<false, false>(offset),
+            (false, true) => self.translate::<false, true>(offset),
+            (true, false) => self.translate::<true, false>(offset),
+            (true, true) => self.translate::<true, true>(offset),
         };
         let place = match translated {
             Err(refused @ Refused { refusal: Refusal::PageProtected, .. })
@@ -200,7 +202,7 @@ impl<O: Observer, F: Faults> Gmch<'_, O, F> {
     }
 
     /// Where a graphics offset leads, or its refusal with this offset: "The translation's own result must carry it".
-    #[inline]
+    #[inline(always)]
     pub(super) fn translate<const IN_MEMORY: bool, const DISPLAY: bool>(
         &mut self,
         offset: u32,
@@ -211,7 +213,7 @@ impl<O: Observer, F: Faults> Gmch<'_, O, F> {
     /// "Graphics offset o reads entry o / 4096". The codes come in the order 3, then the entry's own 4, 5, 7, 6. Between
     /// them, where the table is in main memory, come 7 and 6 of the entry's word, "after code 3 for a lookup". The home,
     /// and whether there may be a display cache, are parameters so that a run asks for them once and not at each step.
-    #[inline]
+    #[inline(always)]
     fn look_up_page<const IN_MEMORY: bool, const DISPLAY: bool>(&mut self, offset: u32) -> Result<Place, Refusal> {
         let number = offset as usize / 4096;
         if IN_MEMORY && self.wrong(Fault::WordBeforeTranslationOff) {
@@ -234,7 +236,7 @@ impl<O: Observer, F: Faults> Gmch<'_, O, F> {
     }
 
     /// "the result is page start + o mod 4096", by this entry; the codes come in the order 4, 5, 7, 6.
-    #[inline]
+    #[inline(always)]
     pub(super) fn translate_by<const DISPLAY: bool>(&self, entry: u32, offset: u32) -> Result<Place, Refusal> {
         self.check_entry::<DISPLAY>(entry)?;
         if DISPLAY && self.is_display_type(entry) {
@@ -282,7 +284,7 @@ impl<O: Observer, F: Faults> Gmch<'_, O, F> {
 
     /// Codes 4 and 5: "type 2:1 (00, 11 main memory; 01 display cache), valid 0". Of type 01 request 11 of document 02
     /// has "Other kinds answer 5 as before, as type 10 does everywhere", and code 5 where the cache is off.
-    #[inline]
+    #[inline(always)]
     fn check_entry<const DISPLAY: bool>(&self, entry: u32) -> Result<(), Refusal> {
         let invalid = entry & 1 == 0 || entry & 0xC000_0FF8 != 0 && self.wrong(Fault::UnnamedEntryBitsRefused);
         let other_memory = match entry >> 1 & 3 {
