@@ -216,18 +216,17 @@ impl<O: Observer, F: Faults> Gmch<'_, O, F> {
         }
     }
 
-    /// "A user interrupt sets identity bit 1 if mask bit 1 is 0."
+    /// "A user interrupt sets identity bit 1 if mask bit 1 is 0." Whether there is one is no branch, which the processor
+    /// could not foresee.
     #[inline]
-    pub(super) fn user_interrupt(&mut self) {
+    pub(super) fn user_interrupt_if(&mut self, raised: bool) {
         let masked = self.interrupt_mask & USER_INTERRUPT != 0;
         let disabled = self.interrupt_enable & USER_INTERRUPT == 0;
-        if masked && self.wrong(Fault::MaskedInterruptStaysPending) {
+        if raised && masked && self.wrong(Fault::MaskedInterruptStaysPending) {
             self.faults.hold_interrupt();
         }
         let lost = masked && !self.wrong(Fault::MaskIgnored) || disabled && self.wrong(Fault::EnableGatesIdentity);
-        if !lost {
-            self.interrupt_identity |= USER_INTERRUPT;
-        }
+        self.interrupt_identity |= u16::from(raised & !lost) << 1;
     }
 
     /// "Line = identity AND enable nonzero".

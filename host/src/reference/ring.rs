@@ -153,14 +153,13 @@ impl<O: Observer, F: Faults> Gmch<'_, O, F> {
         if self.wrong(Fault::InstructionLowBitsChecked) && word & 0x007F_FFFF != 0 {
             return Err(Refusal::UnknownInstruction);
         }
-        match word >> 23 {
-            0x00 | 0x04 => Ok(()),
-            0x02 => {
-                self.user_interrupt();
-                Ok(())
-            }
-            _ => Err(Refusal::UnknownInstruction),
+        let opcode = word >> 23;
+        // Not 00h, 02h or 04h, without a branch for each.
+        if opcode > 0x04 || opcode % 2 != 0 {
+            return Err(Refusal::UnknownInstruction);
         }
+        self.user_interrupt_if(opcode == 0x02);
+        Ok(())
     }
 
     /// "Head moves 4, modulo the length; at the wrap 31:21 counts up modulo 2,048."
