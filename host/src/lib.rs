@@ -51,8 +51,9 @@
 //!
 //! A list has at most [`MAX_RECORDS`](record::MAX_RECORDS) records, and a memory is a multiple of 8 MiB
 //! from 8 to 1,024 MiB ([`is_memory_length`]). A DC100 has a display cache of 4 MiB beside it, which the call is
-//! lent too; for the other boards that argument is empty ([`Board::display_bytes`]). Within these bounds every byte string is a legal list: the
-//! call returns, answers each record, and reads and writes nothing outside what it was lent.
+//! lent too; for the other boards that argument is empty ([`Board::display_bytes`]). Within these bounds every
+//! byte string is a legal list: the call returns, answers each record, and reads and writes nothing outside what
+//! it was lent.
 //!
 //! # Where to go next
 //!

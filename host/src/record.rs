@@ -551,7 +551,7 @@ impl Refusal {
             Refusal::EntryNotValid => "entry is not valid",
             Refusal::EntryType => "entry's type is 01 or 10",
             Refusal::PageProtected => "entry's page is protected",
-            Refusal::PageAboveMemory => "entry's page is at or above the top of memory",
+            Refusal::PageAboveMemory => "entry's page is at or above the top of its memory",
             Refusal::OutsideWindow => "parser address is at or above the window size",
             Refusal::FenceIllFormed => "the matching fence is ill-formed",
             Refusal::NotExactlyRegister => "access touches a listed memory-mapped register without being exactly it",

@@ -38,8 +38,8 @@ enum Listed {
 impl Listed {
     /// The first register that an access at `offset` can touch inside its aligned word, if one is listed there:
     /// "fences 2000h to 201Ch and 2020h, 2030h, 2034h, 2038h, 203Ch, 10000h-1FFFCh, four bytes each; 20A0h, 20A4h,
-    /// 20A8h, 20ACh, two bytes each"; and by request 11 of document 02 "3000h to 3002h ... one byte each", where `display`
-    /// says that they are listed.
+    /// 20A8h, 20ACh, two bytes each"; and by request 11 of document 02 "3000h to 3002h ... one byte each", where
+    /// `display` says that they are listed.
     #[inline]
     const fn touched(offset: u32, display: bool) -> Option<Listed> {
         let listed = match offset & !3 {

@@ -155,7 +155,7 @@ impl<O: Observer, F: Faults> Gmch<'_, O, F> {
         }
         let opcode = word >> 23;
         // Not 00h, 02h or 04h, without a branch for each.
-        if opcode > 0x04 || opcode % 2 != 0 {
+        if opcode > 0x04 || !opcode.is_multiple_of(2) {
             return Err(Refusal::UnknownInstruction);
         }
         self.user_interrupt_if(opcode == 0x02);
