@@ -9,9 +9,15 @@ use std::fs;
 
 /// The proved call's answers to a trace.
 fn answers(trace: &str) -> Vec<Answer> {
+    answers_on(Board::I82810, trace)
+}
+
+/// The same on another board.
+fn answers_on(board: Board, trace: &str) -> Vec<Answer> {
     let records = assemble(trace).unwrap_or_else(|errors| panic!("{errors}")).records;
     let (mut memory, mut answers) = (vec![0; 8 << 20], vec![0; records.len()]);
-    replay(Board::I82810, &mut memory, &records, &mut answers, &mut []).expect("good arguments");
+    let mut display = vec![0; board.display_bytes()];
+    replay(board, &mut memory, &records, &mut answers, &mut display).expect("good arguments");
     record::decode_answers(&answers).collect()
 }
 
@@ -90,7 +96,7 @@ fn every_configuration_register_is_reached_by_its_name() {
 }
 
 /// Symbol, offset, size, and a value that the register keeps; none where it does not keep what is written.
-const MAPPED: [(&str, u32, u8, Option<u32>); 17] = [
+const MAPPED: [(&str, u32, u8, Option<u32>); 20] = [
     ("FENCE0", 0x2000, 4, Some(0x0008_0001)),
     ("FENCE1", 0x2004, 4, Some(0x0010_0011)),
     ("FENCE2", 0x2008, 4, Some(0x0018_0021)),
@@ -108,6 +114,9 @@ const MAPPED: [(&str, u32, u8, Option<u32>); 17] = [
     ("IIR", 0x20A4, 2, None),
     ("IMR", 0x20A8, 2, Some(0xFFFD)),
     ("ISR", 0x20AC, 2, None),
+    ("DRT", 0x3000, 1, Some(0x01)),
+    ("DRAMCL", 0x3001, 1, Some(0x5A)),
+    ("DRAMCH", 0x3002, 1, Some(0xC3)),
 ];
 
 /// Graphics on and decoding, the registers at F0000000h.
@@ -122,11 +131,11 @@ fn every_memory_mapped_register_is_reached_by_its_name() {
     let entries = [("GTT[0]", 0x1_0000, 4, Some(0x1001)), ("GTT[16383]", 0x1_FFFC, 4, Some(0x2001))];
     for (name, at, bytes, kept) in MAPPED.into_iter().chain(entries) {
         // A register is reached by exactly its own width alone.
-        let read = *answers(&format!("{}read {name}\n", registers())).last().expect("an answer");
+        let read = *answers_on(Board::Dc100, &format!("{}read {name}\n", registers())).last().expect("an answer");
         assert_eq!((read.code, read.target(), read.address), (0, Some(Target::MemoryMapped), at), "{name}");
         let Some(kept) = kept else { continue };
         let trace = format!("{}write {name} {kept}\nread{bytes} MMIO+{at:X}h\n", registers());
-        assert_eq!(answers(&trace).last().map(|answer| answer.value), Some(kept), "{name}");
+        assert_eq!(answers_on(Board::Dc100, &trace).last().map(|answer| answer.value), Some(kept), "{name}");
     }
 }
 

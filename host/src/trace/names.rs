@@ -3,6 +3,7 @@
 //! The configuration registers' are those of the datasheet's two tables, the memory-mapped ones'
 //! those of the programmer's manual.
 
+use crate::board::Board;
 use crate::reference::{Gmch, Observer};
 
 /// The bytes at MMADR.
@@ -14,6 +15,10 @@ const ENTRIES: std::ops::Range<u32> = 0x1_0000..0x2_0000;
 /// PGTBL_CTL's offset among the memory-mapped registers: bit 0 has translation on, and on a board whose translation
 /// table is in main memory bits 31:12 are where.
 pub const PGTBL_CTL: u32 = 0x2020;
+
+/// DRT's offset among the memory-mapped registers, which DC100 boards alone have: bit 0 has the display cache on (request
+/// 11 of document 02).
+pub const DRT: u32 = 0x3000;
 
 /// The entries of the translation table.
 pub const ENTRY_COUNT: u32 = (ENTRIES.end - ENTRIES.start) / 4;
@@ -105,7 +110,7 @@ const DEVICE_1: &[Register] = &[
 /// The configuration registers of the two devices that are ours.
 pub const DEVICES: [&[Register]; 2] = [DEVICE_0, DEVICE_1];
 
-/// The listed memory-mapped registers but the table's.
+/// The listed memory-mapped registers but the table's. The last three are listed on boards with a display cache only.
 pub const MAPPED: &[Register] = &[
     register(0x2000, 4, "FENCE0"),
     register(0x2004, 4, "FENCE1"),
@@ -124,6 +129,9 @@ pub const MAPPED: &[Register] = &[
     register(0x20A4, 2, "IIR"),
     register(0x20A8, 2, "IMR"),
     register(0x20AC, 2, "ISR"),
+    register(DRT, 1, "DRT"),
+    register(0x3001, 1, "DRAMCL"),
+    register(0x3002, 1, "DRAMCH"),
 ];
 
 /// The register of a device with this name, in letters of either case.
@@ -169,13 +177,14 @@ fn find(registers: &[Register], name: &str) -> Option<Register> {
     registers.iter().find(|row| row.name.eq_ignore_ascii_case(name)).copied()
 }
 
-/// The listed register that has the byte at this offset: its name, offset and size.
+/// The register that has the byte at this offset, listed on some board: its name, offset and size.
 ///
 /// ```
 /// use mitrophel::trace::names;
 ///
 /// assert_eq!(names::mapped_at(0x20A1), Some(("IER".to_string(), 0x20A0, 2)));
 /// assert_eq!(names::mapped_at(0x1_0028), Some(("GTT[10]".to_string(), 0x1_0028, 4)));
+/// assert_eq!(names::mapped_at(0x3002), Some(("DRAMCH".to_string(), 0x3002, 1)));
 /// ```
 pub fn mapped_at(offset: u32) -> Option<(String, u32, u8)> {
     if let Some(entry) = entry_at(offset) {
@@ -183,6 +192,19 @@ pub fn mapped_at(offset: u32) -> Option<(String, u32, u8)> {
     }
     let holds = |row: &&Register| (row.at..row.at + u32::from(row.bytes)).contains(&offset);
     MAPPED.iter().find(holds).map(|row| (row.name.to_string(), row.at, row.bytes))
+}
+
+/// The same, listed on this board: 3000h to 3002h are "listed for kinds 1 and 3 only" (request 11 of document 02).
+///
+/// ```
+/// use mitrophel::{trace::names, Board};
+///
+/// let listed = Board::ALL.map(|board| names::listed_at(board, 0x3001).is_some());
+/// assert_eq!(listed, [false, true, false, true]);
+/// ```
+pub fn listed_at(board: Board, offset: u32) -> Option<(String, u32, u8)> {
+    let display = (DRT..=0x3002).contains(&offset);
+    mapped_at(offset).filter(|_| !display || board.display_bytes() != 0)
 }
 
 /// The number of the table entry that has the byte at this offset.

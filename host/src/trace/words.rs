@@ -143,11 +143,25 @@ fn fence_size(fence: Fence) -> u32 {
 /// ```
 pub fn entry(word: u32) -> String {
     let page = entry_page(word);
-    match (word & 1, word >> 1 & 3) {
+    match (word & 1, entry_kind(word)) {
         (0, _) => "not valid".to_string(),
         (_, 0 | 3) => format!("page {page:X}h"),
         (_, 1) => format!("display cache page {page:X}h"),
         _ => "type 10".to_string(),
+    }
+}
+
+/// What bit 0 of DRT says of the display cache: "bit 0 of 3000h at 0 means type 01 is code 5" (request 11 of document 02).
+///
+/// ```
+/// use mitrophel::trace::words;
+///
+/// assert_eq!([true, false].map(words::display), ["on: DRT bit 0 is 1", "off: DRT bit 0 is 0"]);
+/// ```
+pub const fn display(on: bool) -> &'static str {
+    match on {
+        true => "on: DRT bit 0 is 1",
+        false => "off: DRT bit 0 is 0",
     }
 }
 
@@ -160,6 +174,17 @@ pub fn entry(word: u32) -> String {
 /// ```
 pub fn entry_page(word: u32) -> u32 {
     word & 0x3FFF_F000
+}
+
+/// A table entry's "type 2:1 (00, 11 main memory; 01 display cache)".
+///
+/// ```
+/// use mitrophel::trace::words;
+///
+/// assert_eq!(words::entry_kind(0x000A_0003), 0b01);
+/// ```
+pub fn entry_kind(word: u32) -> u32 {
+    word >> 1 & 3
 }
 
 /// The value of CF8h in words: what CFCh then reaches.
