@@ -135,13 +135,18 @@ fn words_of_a_table_in_main_memory_are_among_the_unprotected_bytes() {
          write PGTBL_CTL A0001h\nread GTT[0]\nread4 WINDOW+0\nwrite GTT[0] 1\nwrite LP_RING_LENGTH 1\n\
          write LP_RING_TAIL 8\nrun 1\nsmm read4 A0000h\n"
     );
-    for board in ["82810-main", "3"] {
+    for (board, bytes) in [
+        ("82810-main", "8,257,536 unprotected bytes, the table words among them"),
+        ("3", "12,451,840 unprotected bytes, the table words and the display cache's among them"),
+    ] {
         let run = run_with(&["compare", "--board", board, "-"], trace.as_bytes());
         assert_eq!((run.status, run.errors.as_str()), (DONE, ""));
         let joined = run.text.split_whitespace().collect::<Vec<_>>().join(" ");
-        let summary = "13 records after the lock, 1 answer differs, a value that management mode read from protected \
-                       memory: allowed. Registers and 8,257,536 unprotected bytes, the table words among them: equal.";
-        assert!(joined.contains(summary), "{}", run.text);
+        let summary = format!(
+            "13 records after the lock, 1 answer differs, a value that management mode read from protected memory: \
+             allowed. Registers and {bytes}: equal."
+        );
+        assert!(joined.contains(&summary), "{}", run.text);
     }
     let sample = run(&["compare", "--board=2", &example("request-10-table-in-main-memory.trace")]);
     assert_eq!((sample.status, sample.errors.as_str()), (DONE, ""));
@@ -240,9 +245,9 @@ fn wrong_keys_are_told() {
         (vec!["--key", &empty, &trace], "expected 1 to 65,536 bytes in "),
         (vec!["--key", &large, &trace], "large, found more"),
         (vec!["--key=random", "--key=random", "--key=random", &trace], "--key is given more than twice"),
-        (vec!["--key", "-", "-"], "standard input can be read only once"),
+        (vec!["--key", "-", "-"], "FILE and --key cannot both be standard input"),
         (vec!["--key=-", "--key=-", &trace], "standard input can be read only once"),
-        (vec!["--key=-", "--image=-", &trace], "standard input can be read only once"),
+        (vec!["--key=-", "--image=-", &trace], "--image and --key cannot both be standard input"),
         (vec!["--key", &key], "expected a file"),
     ] {
         let run = run(&[&["compare"], words.as_slice()].concat());
@@ -264,5 +269,6 @@ fn an_image_is_the_rest_of_memory() {
     let words = ["compare", "--image", &image, "--memory=16M", "--board=dc100", "--text", "--color=never", "-"];
     let run = run_with(&words, trace);
     assert_eq!((run.status, run.errors.as_str()), (DONE, ""));
-    assert!(run.text.contains("16,646,144 unprotected bytes: equal"), "{}", run.text);
+    let summary = "Registers, table and 20,840,448 unprotected bytes, the display cache's among\nthem: equal.\n";
+    assert!(run.text.contains(summary), "{}", run.text);
 }

@@ -45,6 +45,8 @@ fn a_wrong_command_line_is_told_with_status_2() {
         (&["replay", "--color", "sometimes", "-"], "--color: expected auto, always or never, found 'sometimes'"),
         (&["replay", "--image", "-", "-"], "FILE and --image cannot both be standard input"),
         (&["map", "--image", "-", "-"], "FILE and --image cannot both be standard input"),
+        (&["replay", "--board=1", "--display", "-", "-"], "FILE and --display cannot both be standard input"),
+        (&["map", "--board=1", "--display=-", "--image=-"], "--image and --display cannot both be standard input"),
         (&["replay", "--answers", "x", "--dump", "x", "-"], "--answers and --dump name the same file"),
         (&["replay", "--answers", "-", "--dump", "-", "-"], "--answers and --dump name the same file"),
         (&["replay", "--dump", "-", "-"], "--dump - needs --answers FILE"),
@@ -59,7 +61,7 @@ fn a_wrong_command_line_is_told_with_status_2() {
         (&["audit", "--deny", "1", "-"], "found '1'"),
         (&["audit", "--deny", "6,", "-"], "found ''"),
         (&["audit", "-", "-"], "standard input can be read only once"),
-        (&["audit", "--image", "-", "-"], "standard input can be read only once"),
+        (&["audit", "--image", "-", "-"], "FILE and --image cannot both be standard input"),
     ] {
         let run = run(words);
         assert_eq!(run.status, USAGE, "{words:?}: {}", run.errors);

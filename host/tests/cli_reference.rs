@@ -118,10 +118,13 @@ fn every_code_is_explained_with_an_example_that_runs() {
         let told = run(&["explain", &code.to_string()]);
         assert_eq!((told.status, told.errors.as_str()), (DONE, ""));
         let examples: Vec<&str> = told.text.split("mitrophel replay").skip(1).collect();
-        // 6 and 7 are also given to a word of a table in main memory: in the window here, and at its register.
+        // 6 and 7 are also given to a word of a table in main memory: in the window here, and at its register. 5 and 7
+        // are given to entries of the display cache, and 10 at its registers.
         let homes: &[&str] = match code {
+            5 => &["entry 1 (window offset 1000h) has type 01", "entry 1 (window offset 1000h) has type 01, display c"],
             6 => &["page A0000h of entry 1 ", "word 1 of the table (window offset 1000h), at A0004h, "],
-            7 => &["page 800000h of entry 1 ", "word 1 of the table, at 800004h, "],
+            7 => &["page 800000h of entry 1 ", "word 1 of the table, at 800004h, ", "page 400000h of entry 1 "],
+            10 => &["2 bytes at offset 2020h", "4 bytes at offset 3000h, not DRT as it is, 1 byte at 3000h"],
             _ => &[""],
         };
         assert_eq!(examples.len(), homes.len(), "{}", told.text);

@@ -35,11 +35,6 @@ pub const REPEATED: &[&str] = &["--deny", "--key", "--only"];
 /// The values of `--color`.
 pub const COLOURS: [(&str, Colour); 3] = [("auto", Colour::Auto), ("always", Colour::Always), ("never", Colour::Never)];
 
-/// What to say where standard input is named twice: by a command that has only these two to read, and by
-/// one that has more.
-pub const NOT_BOTH: &str = "FILE and --image cannot both be standard input";
-pub const ONLY_ONCE: &str = "standard input can be read only once";
-
 /// Short forms.
 pub const SHORT: &[(&str, &str)] = &[("-o", "--output")];
 
@@ -146,15 +141,29 @@ impl Options {
         self.files.first().map(|file| Source::named(file)).ok_or_else(missing)
     }
 
-    /// Asks that standard input is named once at most, as a file or by an option that reads one; `wrong` is
-    /// what to say otherwise.
-    pub fn one_standard_input(&self, wrong: &str) -> Result<(), Failure> {
-        let options = ["--image", "--key"].into_iter().flat_map(|name| self.values(name));
-        let named = options.chain(self.files.iter().map(OsString::as_os_str)).filter(|file| *file == "-");
-        match named.count() {
-            0 | 1 => Ok(()),
-            _ => Err(self.usage(wrong)),
+    /// Asks that standard input is named once at most, as a file or by an option that reads one.
+    pub fn one_standard_input(&self) -> Result<(), Failure> {
+        let given = |name: &'static str| self.values(name).map(move |file| (name, file));
+        let options = ["--image", "--display", "--key"].into_iter().flat_map(given);
+        let files = self.files.iter().map(|file| ("FILE", file.as_os_str()));
+        let named: Vec<&str> = files.chain(options).filter(|(_, file)| *file == "-").map(|(name, _)| name).collect();
+        match named[..] {
+            [first, second, ..] if first != second => {
+                Err(self.usage(format!("{first} and {second} cannot both be standard input")))
+            }
+            [_, _, ..] => Err(self.usage("standard input can be read only once")),
+            _ => Ok(()),
         }
+    }
+
+    /// Asks that an option about the display cache, if it is given, is given for a board that has one.
+    pub fn has_display(&self, name: &str, board: Board) -> Result<(), Failure> {
+        if !self.has(name) || board.display_bytes() != 0 {
+            return Ok(());
+        }
+        let with: Vec<&str> =
+            Board::ALL.into_iter().filter(|board| board.display_bytes() != 0).map(Board::name).collect();
+        Err(self.usage(format!("{name}: board {board} has no display cache; {} have one", with.join(" and "))))
     }
 
     /// Asks that an option's output is none of the files that are read, which it would replace.
@@ -168,6 +177,11 @@ impl Options {
     /// `--image`
     pub fn image(&self) -> Option<Source> {
         self.value("--image").map(Source::named)
+    }
+
+    /// `--display`
+    pub fn display(&self) -> Option<Source> {
+        self.value("--display").map(Source::named)
     }
 
     /// An option's value as a number of 32 bits.

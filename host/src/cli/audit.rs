@@ -1,11 +1,11 @@
 //! `audit`: many lists, call after call, how often each code and target was answered, and at which table entry most was
 //! refused.
 
-use super::args::{Grammar, Options, ONLY_ONCE};
+use super::args::{Grammar, Options};
 use super::complain;
 use super::failure::{shown, Failure, Status};
 use super::files::{Input, Source};
-use super::load::{self, Form, List, Memory};
+use super::load::{self, Form, Lent, List, Memory};
 use super::names;
 use super::numbers;
 use super::pair::{self, Call, Pair};
@@ -29,7 +29,7 @@ use std::thread;
 
 pub const GRAMMAR: Grammar = Grammar {
     command: "audit",
-    values: &["--deny", "--board", "--memory", "--image", "--jobs", "--color"],
+    values: &["--deny", "--board", "--memory", "--image", "--display", "--jobs", "--color"],
     switches: &["--compare", "--text", "--binary"],
     files: usize::MAX,
 };
@@ -95,24 +95,24 @@ impl Audit {
     /// What the options say, by this call.
     fn given(options: &Options, call: Call) -> Result<Audit, Failure> {
         options.source()?;
-        options.one_standard_input(ONLY_ONCE)?;
+        options.one_standard_input()?;
+        let board = options.board()?;
         Ok(Audit {
-            board: options.board()?,
+            board,
             form: options.form()?,
             deny: denied(options)?,
             compare: options.has("--compare"),
             jobs: jobs(options)?,
-            memory: Memory::given(options)?,
+            memory: Memory::given(options, board)?,
             call,
         })
     }
 
     /// Why a record was refused, as far as its answer tells.
     fn reason(&self, record: &Record, answer: &Answer, refusal: Refusal) -> String {
-        let in_memory = self.board.table_in_memory();
         match names::refused_offset(record, answer) {
-            Some(offset) => names::refusal_reason_at(refusal, in_memory, offset),
-            None => names::refusal_reason(refusal, in_memory).to_string(),
+            Some(offset) => names::refusal_reason_at(refusal, self.board, offset),
+            None => names::refusal_reason(refusal, Some(self.board)).to_string(),
         }
     }
 
@@ -265,7 +265,7 @@ fn leaves_out(failure: &Failure) -> bool {
 
 /// What replays: the proved call alone, or with the reference beside it.
 enum Engine {
-    Alone { call: Call, board: Board, memory: Vec<u8>, display: Vec<u8> },
+    Alone { call: Call, board: Board, lent: Lent },
     Compared(Pair),
 }
 
@@ -274,22 +274,17 @@ impl Engine {
         match audit.compare {
             // A list is read as it goes: what will be protected later is not known yet.
             true => {
-                let memories = [audit.memory.fresh(), audit.memory.fresh()];
-                Engine::Compared(Pair::by(audit.board, memories, audit.call).without_values())
+                let lent = [audit.memory.fresh(), audit.memory.fresh()];
+                Engine::Compared(Pair::by(audit.board, lent, audit.call).without_values())
             }
-            false => Engine::Alone {
-                call: audit.call,
-                board: audit.board,
-                memory: audit.memory.fresh(),
-                display: vec![0; audit.board.display_bytes()],
-            },
+            false => Engine::Alone { call: audit.call, board: audit.board, lent: audit.memory.fresh() },
         }
     }
 
     fn replay(&mut self, records: &[u8]) -> Result<Vec<u8>, Failure> {
         match self {
             Engine::Compared(pair) => pair.replay(records, |_| Ok(())),
-            Engine::Alone { call, board, memory, display } => {
+            Engine::Alone { call, board, lent: Lent { memory, display } } => {
                 let mut answers = vec![0; records.len()];
                 match call(board.number(), memory, records, &mut answers, display) {
                     0 => Ok(answers),

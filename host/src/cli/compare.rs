@@ -4,15 +4,16 @@
 //! is set, and in what management mode writes there. From the lock to the next reset nothing may differ but
 //! the values that management mode reads from that memory. Answers and memory are the proved call's;
 //! registers and a private table are the reference's, which stands beside it. For a table in main memory demand 3
-//! reads "table words in unprotected memory", which are among the unprotected bytes.
+//! reads "table words in unprotected memory", which are among the unprotected bytes. It "counts" the display cache
+//! "as unprotected, equal at the start" (request 11 of document 02).
 
 mod judge;
 mod runs;
 
-use super::args::{Grammar, Options, ONLY_ONCE};
+use super::args::{Grammar, Options};
 use super::failure::{Failure, Status};
 use super::files::Source;
-use super::load::{List, Memory};
+use super::load::{Lent, List, Memory};
 use super::numbers::{self, counted, grouped};
 use super::style::Style;
 use super::told::{self, Secrets};
@@ -44,7 +45,7 @@ const FEW: usize = 5;
 
 pub const GRAMMAR: Grammar = Grammar {
     command: "compare",
-    values: &["--key", "--board", "--memory", "--image", "--color"],
+    values: &["--key", "--board", "--memory", "--image", "--display", "--color"],
     switches: &["--text", "--binary", "--show-protected"],
     files: 1,
 };
@@ -57,9 +58,9 @@ pub fn run(words: &[OsString]) -> Result<Status, Failure> {
     let form = options.form()?;
     let source = options.source()?;
     let secrets = options.secrets();
-    options.one_standard_input(ONLY_ONCE)?;
+    options.one_standard_input()?;
     let keys = Key::both(&options)?;
-    let memory = Memory::given(&options)?;
+    let memory = Memory::given(&options, board)?;
     let list = List::read(&source, form)?;
 
     let machine = Machine::new(board, &memory, gmch_replay);
@@ -234,11 +235,16 @@ impl Report<'_> {
                 grouped(count as u64)
             ),
         };
-        let others: usize = self.scope.protected.others(self.runs[0].memory.len()).iter().map(Range::len).sum();
-        let unprotected = counted(others as u64, "unprotected byte");
-        let compared = match self.board.table_in_memory() {
-            true => format!("Registers and {unprotected}, the table words among them: equal."),
-            false => format!("Registers, table and {unprotected}: equal."),
+        let Lent { memory, display } = &self.runs[0].lent;
+        let others: usize = self.scope.protected.others(memory.len()).iter().map(Range::len).sum();
+        let unprotected = counted((others + display.len()) as u64, "unprotected byte");
+        let compared = match (self.board.table_in_memory(), display.is_empty()) {
+            (false, true) => format!("Registers, table and {unprotected}: equal."),
+            (false, false) => format!("Registers, table and {unprotected}, the display cache's among them: equal."),
+            (true, true) => format!("Registers and {unprotected}, the table words among them: equal."),
+            (true, false) => {
+                format!("Registers and {unprotected}, the table words and the display cache's among them: equal.")
+            }
         };
         for text in [
             format!("{records} after the lock, {answers}."),
@@ -277,6 +283,9 @@ impl Report<'_> {
             Difference::Register(name, values) => format!("{name} differs at the end{}", self.both(values)),
             Difference::Byte(at, values) => {
                 format!("the unprotected byte at {at:X}h differs at the end{}", self.both(values))
+            }
+            Difference::Display(at, values) => {
+                format!("the display cache's byte at {at:X}h differs at the end{}", self.both(values))
             }
             Difference::Unwritten(run, at) => format!(
                 "in the {} run the protected byte at {at:X}h changed though no management-mode write landed on it",
@@ -324,7 +333,7 @@ mod tests {
     /// A call that shows the key through the window: the reference beside it notices first.
     #[test]
     fn a_disagreement_does_not_show_the_key() {
-        let memory = Memory::zeros(8 << 20);
+        let memory = Memory::zeros(Board::I82810, 8 << 20);
         let list = List::text(&Source::File("leak.trace".into()), LEAK.as_bytes()).expect("a trace");
         let scope = Scope::of(&machine(&memory, gmch_replay), &list).expect("it locks");
         let failure = Run::of(&machine(&memory, leaking), &list, &scope, &keys()[0]).err().expect("the two disagree");
@@ -336,14 +345,14 @@ mod tests {
     /// Without a reference beside it, the comparison notices the same leak, and tells it without the key.
     #[test]
     fn a_leak_through_the_window_is_forbidden() {
-        let memory = Memory::zeros(8 << 20);
+        let memory = Memory::zeros(Board::I82810, 8 << 20);
         let list = List::text(&Source::File("leak.trace".into()), LEAK.as_bytes()).expect("a trace");
         let scope = Scope::of(&machine(&memory, gmch_replay), &list).expect("it locks");
         let keys = keys();
         let runs = keys.each_ref().map(|key| {
             let mut run = Run::of(&machine(&memory, gmch_replay), &list, &scope, key).expect("the two agree");
             let mut answers = vec![0; list.records.len()];
-            assert_eq!(leaking(0, &mut run.memory, &list.records, &mut answers, &mut []), 0);
+            assert_eq!(leaking(0, &mut run.lent.memory, &list.records, &mut answers, &mut []), 0);
             run.answers = record::decode_answers(&answers).collect();
             run
         });
@@ -364,7 +373,7 @@ mod tests {
     /// A refusal's address that differs is no window offset, and may be the key's. A run's head is told.
     #[test]
     fn a_refusal_whose_address_differs_is_forbidden() {
-        let memory = Memory::zeros(8 << 20);
+        let memory = Memory::zeros(Board::I82810, 8 << 20);
         let source = Source::File("leak.trace".into());
         let text = format!("{LEAK}write LP_RING_TAIL 8\nwrite LP_RING_START A000h\nwrite LP_RING_LENGTH 1\nrun 1\n");
         let list = List::text(&source, text.as_bytes()).expect("a trace");
@@ -391,7 +400,7 @@ mod tests {
 
     #[test]
     fn registers_are_named() {
-        let memory = Memory::zeros(8 << 20);
+        let memory = Memory::zeros(Board::I82810, 8 << 20);
         let list = List::text(&Source::File("leak.trace".into()), LEAK.as_bytes()).expect("a trace");
         let machine = machine(&memory, gmch_replay);
         let scope = Scope::of(&machine, &list).expect("it locks");

@@ -8,6 +8,7 @@
 use super::args::Grammar;
 use super::compare::{Field, Protected};
 use super::failure::{Failure, Status};
+use super::load::Lent;
 use super::names::Bases;
 use super::pair::{Call, Pair};
 use super::picture::{self, Glyphs};
@@ -90,7 +91,8 @@ impl Demo<'_> {
 
 /// The desk at its start.
 fn board(call: Call) -> Pair {
-    Pair::by(BOARD, [vec![0; MEMORY], vec![0; MEMORY]], call)
+    let lent = || Lent { memory: vec![0; MEMORY], display: vec![0; BOARD.display_bytes()] };
+    Pair::by(BOARD, [lent(), lent()], call)
 }
 
 /// Where outcomes start in a part, whose lines these begin with.
@@ -157,7 +159,7 @@ impl Run {
         let replay = Replay {
             records: record::decode(bytes).collect(),
             answers: record::decode_answers(&answers).collect(),
-            memory: pair.memory().to_vec(),
+            memory: pair.lent().memory.clone(),
         };
         Ok(Run { replay, told, bases, landed, protected })
     }

@@ -53,6 +53,8 @@ struct Code {
 /// A trace whose last access alone is refused, with the example's code.
 struct Example {
     board: Board,
+    /// What is said of it; nothing of the first.
+    note: &'static str,
     /// What it starts with.
     start: &'static str,
     /// Its own lines.
@@ -60,21 +62,27 @@ struct Example {
 }
 
 const fn example(start: &'static str, own: &'static str) -> Example {
-    Example { board: Board::I82810, start, own }
+    Example { board: Board::I82810, note: "", start, own }
 }
 
 /// The same on a board whose table is in main memory.
 const fn in_memory(start: &'static str, own: &'static str) -> Example {
-    Example { board: Board::I82810Main, start, own }
+    Example { board: Board::I82810Main, note: "# The same for a word of a table in main memory.\n", start, own }
+}
+
+/// The same on a board with a display cache.
+const fn in_display(start: &'static str, own: &'static str) -> Example {
+    Example { board: Board::Dc100, note: "# The same on a board with a display cache.\n", start, own }
 }
 
 const CODES: [Code; 13] = [
     Code {
         refusal: Refusal::Arguments,
         when: "The call's own result: board kind not 0 to 3; memory no multiple of 8 MiB from 8 to 1,024 MiB; records \
-               not 16 bytes each, or more than 65,535; answers not as long as the records. This program makes no such \
-               call: it refuses a wrong --board or --memory with exit status 2, and a file that ends within a record \
-               or is too long with exit status 3.",
+               not 16 bytes each, or more than 65,535; answers not as long as the records; display cache not of 4 MiB \
+               for kinds 1 and 3, or not of length 0 for the others. This program makes no such call: it refuses a \
+               wrong --board or --memory, and --display for a board without a display cache, with exit status 2, and a \
+               file that ends within a record or has a wrong length with exit status 3.",
         examples: &[],
     },
     Code {
@@ -99,8 +107,21 @@ const CODES: [Code; 13] = [
     },
     Code {
         refusal: Refusal::EntryType,
-        when: "The table entry is valid and its bits 2:1 are 01, display cache, or 10. Main memory is 00 or 11.",
-        examples: &[example(DESK, "write PGTBL_CTL 1\nwrite GTT[1] 100003h  # valid, type 01\nread4 WINDOW+1000h\n")],
+        when: "The table entry is valid and its bits 2:1 are 10; or they are 01, display cache, and the board has none \
+               (boards 82810 and 82810-main), or has one (dc100 and dc100-main) that is off: DRT (3000h) bit 0 is 0, as \
+               it is after a reset. Main memory is 00 or 11.",
+        examples: &[
+            example(DESK, "write PGTBL_CTL 1\nwrite GTT[1] 100003h  # valid, type 01\nread4 WINDOW+1000h\n"),
+            in_display(
+                DESK,
+                "write PGTBL_CTL 1\n\
+                 write GTT[1] 100003h  # valid, type 01\n\
+                 write DRT 1           # the display cache is on\n\
+                 read4 WINDOW+1000h    # and answers\n\
+                 write DRT 0           # off\n\
+                 read4 WINDOW+1000h\n",
+            ),
+        ],
     },
     Code {
         refusal: Refusal::PageProtected,
@@ -108,7 +129,8 @@ const CODES: [Code; 13] = [
                or if HSEG acts; and the TSEG. Locked or not, and in management mode too. Somebody has aimed the window \
                or the ring at the key. Where the table is in main memory (boards 82810-main and dc100-main), also: the \
                entry's own word, at PGTBL_CTL's bits 31:12 + 4 x entry, lies in protected memory. An access to the \
-               entry's register is then refused, too.",
+               entry's register is then refused, too. The display cache, which entries of type 01 name pages of, is \
+               never protected.",
         examples: &[
             example(DESK, "write PGTBL_CTL 1\nentry 1 A0000h\nread4 WINDOW+1000h\n"),
             in_memory(DESK, "write PGTBL_CTL A0001h\nread4 WINDOW+1000h  # the word at A0004h\n"),
@@ -117,12 +139,22 @@ const CODES: [Code; 13] = [
     Code {
         refusal: Refusal::PageAboveMemory,
         when: "The table entry names a page at or above the top of memory, which is memory's length; none can with 1 \
-               GiB. Where the table is in main memory (boards 82810-main and dc100-main), also: the entry's own word, \
+               GiB. An entry of type 01 names a page of the display cache (boards dc100 and dc100-main), and at or above \
+               4 MiB none is there. Where the table is in main memory (boards 82810-main and dc100-main), also: the entry's own word, \
                at PGTBL_CTL's bits 31:12 + 4 x entry, a sum that does not wrap at 32 bits, lies there. An access to \
                the entry's register is then refused, too.",
         examples: &[
             example(DESK, "write PGTBL_CTL 1\nentry 1 800000h  # memory is 8M\nread4 WINDOW+1000h\n"),
             in_memory(DESK, "write PGTBL_CTL 800001h  # memory is 8M\nread GTT[1]  # the word at 800004h\n"),
+            in_display(
+                DESK,
+                "write PGTBL_CTL 1\n\
+                 write DRT 1           # the display cache is on\n\
+                 write GTT[1] 3FF003h  # its last page\n\
+                 read4 WINDOW+1000h\n\
+                 write GTT[1] 400003h\n\
+                 read4 WINDOW+1000h\n",
+            ),
         ],
     },
     Code {
@@ -148,8 +180,12 @@ const CODES: [Code; 13] = [
     Code {
         refusal: Refusal::NotExactlyRegister,
         when: "An access in the 512 KiB at MMADR touches a listed register and is not exactly that register. Those at \
-               20A0h, 20A4h, 20A8h and 20ACh have 2 bytes, all others 4.",
-        examples: &[example(DESK, "read2 PGTBL_CTL\n")],
+               20A0h, 20A4h, 20A8h and 20ACh have 2 bytes, and 3000h, 3001h and 3002h, which are listed on boards dc100 \
+               and dc100-main only, 1; all others have 4.",
+        examples: &[
+            example(DESK, "read2 PGTBL_CTL\n"),
+            in_display(DESK, "read DRAMCL  # 1 byte at 3001h\nread4 DRT    # 4 bytes at 3000h\n"),
+        ],
     },
     Code {
         refusal: Refusal::RingOffset,
@@ -231,7 +267,7 @@ impl Code {
 
     /// On every board.
     fn reason(&self) -> &'static str {
-        names::refusal_reason(self.refusal, true)
+        names::refusal_reason(self.refusal, None)
     }
 
     fn text(&self) -> String {
@@ -297,11 +333,8 @@ impl Code {
                 .to_string(),
             _ => format!("Example, for a shell: the last access is refused {code}.\n"),
         };
-        for Example { board, start, own } in self.examples {
-            let (note, option) = match board.table_in_memory() {
-                true => ("# The same for a word of a table in main memory.\n", format!(" --board {board}")),
-                false => ("", String::new()),
-            };
+        for Example { board, note, start, own } in self.examples {
+            let option = if *board == Board::default() { String::new() } else { format!(" --board {board}") };
             text.push_str(&format!("{note}mitrophel replay{option} - <<'END'\n{start}{own}END\n"));
         }
         text
@@ -318,7 +351,7 @@ mod tests {
 
     /// The last access of an example is refused with its code, and no other access is refused.
     fn check(refusal: Refusal, example: &Example, call: Call) {
-        let Example { board, start, own } = example;
+        let Example { board, start, own, .. } = example;
         let records = trace::assemble(&format!("{start}{own}")).expect("a good trace").records;
         let (mut memory, mut answers) = (vec![0; 8 << 20], vec![0; records.len()]);
         let mut display = vec![0; board.display_bytes()];
@@ -341,14 +374,17 @@ mod tests {
 
     /// By the reference.
     #[test]
-    fn an_example_for_each_home_of_the_table_gives_its_code() {
+    fn an_example_for_each_memory_gives_its_code() {
+        const PLAIN: Board = Board::I82810;
         for code in &CODES {
             code.examples.iter().for_each(|example| check(code.refusal, example, reference::replay));
-            let homes: Vec<bool> = code.examples.iter().map(|example| example.board.table_in_memory()).collect();
+            let boards: Vec<Board> = code.examples.iter().map(|example| example.board).collect();
             match code.refusal {
-                Refusal::Arguments => assert_eq!(homes, []),
-                Refusal::PageProtected | Refusal::PageAboveMemory => assert_eq!(homes, [false, true]),
-                _ => assert_eq!(homes, [false]),
+                Refusal::Arguments => assert_eq!(boards, []),
+                Refusal::PageProtected => assert_eq!(boards, [PLAIN, Board::I82810Main]),
+                Refusal::PageAboveMemory => assert_eq!(boards, [PLAIN, Board::I82810Main, Board::Dc100]),
+                Refusal::EntryType | Refusal::NotExactlyRegister => assert_eq!(boards, [PLAIN, Board::Dc100]),
+                _ => assert_eq!(boards, [PLAIN]),
             }
         }
     }

@@ -70,22 +70,28 @@ by its content; '-' is standard input.
                     replay; they are '\u{B7}\u{B7}' otherwise
   --board NAME      82810 (default), dc100, 82810-main or dc100-main, or the
                     kind's number, 0 to 3; those in -main have the translation
-                    table in main memory, at PGTBL_CTL's bits 31:12
+                    table in main memory, at PGTBL_CTL's bits 31:12; dc100 and
+                    dc100-main have a display cache of 4 MiB
   --memory SIZE     main memory: a multiple of 8M, 8M to 1G
                     (default: the image's length, else 8M)
   --image FILE      memory at the start, from address 0; the rest is zero
+  --display FILE    display cache at the start, 4 MiB (default: zeros)
   --answers FILE    write the answers, 16 bytes each, and print nothing that no
                     other option asks for
   --dump FILE       write memory as it is afterwards; for its owner alone if
                     it holds bytes that were protected
   --redact          with --dump: zeros where memory was protected
+  --dump-display FILE
+                    write the display cache as it is afterwards; its bytes are
+                    never protected
   --text, --binary  take FILE for a text trace, or for the binary form,
                     whatever its content
   --color WHEN      auto (default), always or never
 
 Kinds for --only: refused, answered; a refusal's code or name as 'mitrophel
-explain' lists them; memory, register, hub, vga, mmio, by where it went;
-window, error, interrupt; io, read, fetch, write, smm, master, run, reset.
+explain' lists them; memory, register, hub, vga, mmio, display, by where it
+went; window, error, interrupt; io, read, fetch, write, smm, master, run,
+reset.
 
 The reasons come from a second replay, in ordinary Rust, beside the proved
 call. Should the two ever disagree, the difference is told, nothing is written,
@@ -128,8 +134,9 @@ No record:
 PORT      a number, CONFIG_ADDRESS or CONFIG_DATA+n
 PLACE     a number, WINDOW+n, MMIO+n, GTT[i], FENCE0 to FENCE7, PGTBL_CTL,
           LP_RING_TAIL, LP_RING_HEAD, LP_RING_START, LP_RING_LENGTH, IER, IIR,
-          IMR or ISR; a register's name needs no width. The names stand at
-          MMADR and GMADR as the records before have left them.
+          IMR, ISR, DRT, DRAMCL or DRAMCH; a register's name needs no width.
+          The names stand at MMADR and GMADR as the records before have left
+          them.
 REGISTER  dev0.SMRAM, dev1.GMADR and so on, by the datasheet's symbols, which
           need no width, or its number in hexadecimal: dev0.70
 DATA      a number, or an instruction of the ring parser: noop, user_interrupt
@@ -181,6 +188,7 @@ content; '-' is standard input.
   --memory SIZE     main memory: a multiple of 8M, 8M to 1G
                     (default: the image's length, else 8M)
   --image FILE      memory at the start, from address 0; the rest is zero
+  --display FILE    display cache at the start (boards dc100, dc100-main)
   --text, --binary  take FILE for a text trace, or for the binary form,
                     whatever its content
   --color WHEN      auto (default), always or never
@@ -196,13 +204,15 @@ const MAP: &str = "\
 Usage: mitrophel map [OPTION].. [FILE]
 Show the address map in force: where each address goes for the processor, in
 management mode, for hub masters, and for graphics through the translation
-table; which ranges are protected. It is the map of SMRAM as given, or as the
+table; which ranges are protected; and on boards with a display cache whether
+it is on and which entries reach it. It is the map of SMRAM as given, or as the
 trace or records of FILE leave it ('-': standard input).
 
   --board NAME         82810 (default), dc100, 82810-main, dc100-main
   --memory SIZE        main memory: a multiple of 8M, 8M to 1G
                        (default: the image's length, else 8M)
   --image FILE         memory at the start
+  --display FILE       display cache at the start (boards dc100, dc100-main)
   --svg FILE           draw the map as a picture too ('-': the picture alone)
   --color WHEN         auto (default), always or never
 With FILE:
@@ -235,11 +245,13 @@ is a terminal.
   --deny KIND       exit with status 1 if a refusal of this kind was seen;
                     several with commas, or by giving the option again
   --compare         replay by the reference too, and compare every answer and
-                    all of memory
+                    all of memory and of the display cache
   --board NAME      82810 (default), dc100, 82810-main, dc100-main
   --memory SIZE     main memory: a multiple of 8M, 8M to 1G
                     (default: the image's length, else 8M)
   --image FILE      memory at the start of every FILE
+  --display FILE    display cache at the start of every FILE (boards dc100 and
+                    dc100-main)
   --jobs NUMBER     files replayed side by side (default: one for each core)
   --text, --binary  take every FILE for a text trace, or for the binary form
   --color WHEN      auto (default), always or never
@@ -263,7 +275,8 @@ another key in the memory that is protected once SMRAM's lock is set, and show
 side by side what differs. After the lock only values that management mode
 reads from that memory may differ. If anything else does, an answer, a
 register, a table word, an unprotected byte, it is named, and the exit status
-is 1. Words of a table in main memory count where they are unprotected.
+is 1. Words of a table in main memory count where they are unprotected, and
+every byte of a display cache does.
 
   --key KEY         a file of 1 to 65,536 bytes, or 'random' (./random is a
                     file); give it twice, what is not given is random
@@ -272,6 +285,8 @@ is 1. Words of a table in main memory count where they are unprotected.
   --memory SIZE     main memory: a multiple of 8M, 8M to 1G
                     (default: the image's length, else 8M)
   --image FILE      memory at the start, but for the protected bytes
+  --display FILE    display cache at the start of both runs (boards dc100 and
+                    dc100-main)
   --text, --binary  take FILE for a text trace, or for the binary form
   --color WHEN      auto (default), always or never
 

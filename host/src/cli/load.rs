@@ -8,7 +8,7 @@ use super::follow::{Follower, Ground};
 use super::{numbers, pair, trace};
 use mitrophel::record::{self, MAX_RECORDS, RECORD_BYTES};
 use mitrophel::trace::{Assembled, Expectation, Place, Warning};
-use mitrophel::{is_memory_length, Record, MOST_MEMORY};
+use mitrophel::{is_memory_length, Board, Record, MOST_MEMORY};
 use std::io;
 use std::ops::Range;
 use std::path::Path;
@@ -250,63 +250,101 @@ pub fn whole_records(name: &str, length: u64) -> Result<(), Failure> {
     )))
 }
 
-/// The memory that a call is lent.
+/// What a call is lent: main memory, and the display cache, which is empty where the board has none.
+#[derive(Clone, Debug, Default, PartialEq, Eq)]
+pub struct Lent {
+    pub memory: Vec<u8>,
+    pub display: Vec<u8>,
+}
+
+/// What a call is lent, as it is at the start.
 pub struct Memory {
     length: usize,
     image: Blocks,
+    display_length: usize,
+    display: Blocks,
 }
 
 const LENGTHS: &str = "a multiple of 8M from 8M to 1G";
 
 impl Memory {
-    /// `--memory` and `--image`: a length, by default the image's or 8M, and what stands at address 0.
-    pub fn given(options: &Options) -> Result<Memory, Failure> {
-        let length = options.size("--memory")?.map(|length| usize::try_from(length).unwrap_or(usize::MAX));
-        if let Some(text) = options.value("--memory").filter(|_| !length.is_none_or(is_memory_length)) {
-            return Err(options.usage(format!("--memory: expected {LENGTHS}, found '{}'", shown(text))));
-        }
-        let Some(file) = options.value("--image") else {
-            return Ok(Memory { length: length.unwrap_or(8 << 20), image: Blocks::default() });
-        };
-        let source = Source::named(file);
-        let most = length.unwrap_or(MOST_MEMORY);
-        let (image, bytes) = read_image(&source, most)?;
-        let found = if bytes > most { "more".to_string() } else { format!("{bytes} bytes") };
-        let expected = format!("{}: expected an image of", source.name());
-        match length {
-            Some(length) if bytes > most => {
-                Err(Failure::input(format!("{expected} at most {length} bytes, the memory's length, found {found}")))
-            }
-            Some(length) => Ok(Memory { length, image }),
-            None if is_memory_length(bytes) => Ok(Memory { length: bytes, image }),
-            None => Err(Failure::input(format!(
-                "{expected} {LENGTHS}, found {found}; with --memory a shorter one stands at address 0"
-            ))),
-        }
+    /// `--memory`, `--image` and `--display`.
+    pub fn given(options: &Options, board: Board) -> Result<Memory, Failure> {
+        options.has_display("--display", board)?;
+        let (length, image) = main_memory(options)?;
+        let display_length = board.display_bytes();
+        let display = options.display().map(|source| whole_display(&source, display_length)).transpose()?;
+        Ok(Memory { length, image, display_length, display: display.unwrap_or_default() })
     }
 
-    /// A memory of zeros; `length` must be one that a call takes.
+    /// Zeros for a board; `length` must be one that a call takes.
     #[cfg(test)]
-    pub fn zeros(length: usize) -> Memory {
-        Memory { length, image: Blocks::default() }
+    pub fn zeros(board: Board, length: usize) -> Memory {
+        let display_length = board.display_bytes();
+        Memory { length, image: Blocks::default(), display_length, display: Blocks::default() }
     }
 
-    /// A memory as it is at the start.
-    pub fn fresh(&self) -> Vec<u8> {
-        let mut memory = vec![0; self.length];
-        self.image.put(&mut memory);
-        memory
+    /// What is lent, as it is at the start.
+    pub fn fresh(&self) -> Lent {
+        self.filled(Lent { memory: vec![0; self.length], display: vec![0; self.display_length] })
     }
 
-    /// The same, made of one that was used. Reading all of it is then cheap, since the system has mapped its pages.
-    pub fn renewed(&self, mut used: Vec<u8>) -> Vec<u8> {
-        blocks::clear(&mut used);
-        self.image.put(&mut used);
-        used
+    /// The same, made of what was used. Reading all of it is then cheap, since the system has mapped its pages.
+    pub fn renewed(&self, mut used: Lent) -> Lent {
+        blocks::clear(&mut used.memory);
+        blocks::clear(&mut used.display);
+        self.filled(used)
+    }
+
+    fn filled(&self, mut zeros: Lent) -> Lent {
+        self.image.put(&mut zeros.memory);
+        self.display.put(&mut zeros.display);
+        zeros
     }
 
     pub fn length(&self) -> usize {
         self.length
+    }
+}
+
+/// `--memory` and `--image`: a length, by default the image's or 8M, and what stands at address 0.
+fn main_memory(options: &Options) -> Result<(usize, Blocks), Failure> {
+    let length = options.size("--memory")?.map(|length| usize::try_from(length).unwrap_or(usize::MAX));
+    if let Some(text) = options.value("--memory").filter(|_| !length.is_none_or(is_memory_length)) {
+        return Err(options.usage(format!("--memory: expected {LENGTHS}, found '{}'", shown(text))));
+    }
+    let Some(source) = options.image() else { return Ok((length.unwrap_or(8 << 20), Blocks::default())) };
+    let most = length.unwrap_or(MOST_MEMORY);
+    let (image, bytes) = read_image(&source, most)?;
+    let (expected, found) = (format!("{}: expected an image of", source.name()), found(bytes, most));
+    match length {
+        Some(length) if bytes > most => {
+            Err(Failure::input(format!("{expected} at most {length} bytes, the memory's length, found {found}")))
+        }
+        Some(length) => Ok((length, image)),
+        None if is_memory_length(bytes) => Ok((bytes, image)),
+        None => Err(Failure::input(format!(
+            "{expected} {LENGTHS}, found {found}; with --memory a shorter one stands at address 0"
+        ))),
+    }
+}
+
+/// `--display`: what stands in the display cache, all of it, since its length is the board's.
+fn whole_display(source: &Source, length: usize) -> Result<Blocks, Failure> {
+    let (image, bytes) = read_image(source, length)?;
+    if bytes == length {
+        return Ok(image);
+    }
+    let (name, found) = (source.name(), found(bytes, length));
+    Err(Failure::input(format!("{name}: expected {length} bytes, the display cache's length, found {found}")))
+}
+
+/// How many bytes an image has, of which at most one more than `most` was read.
+fn found(bytes: usize, most: usize) -> String {
+    if bytes > most {
+        "more".to_string()
+    } else {
+        format!("{bytes} bytes")
     }
 }
 

@@ -1,6 +1,6 @@
 //! `map`: where each address goes, as a table and as a picture.
 
-use super::args::{Grammar, Options, NOT_BOTH};
+use super::args::{Grammar, Options};
 use super::failure::{Failure, Status};
 use super::files::{self, Secrecy, Sink, Source};
 use super::load::{List, Memory};
@@ -19,6 +19,7 @@ pub const GRAMMAR: Grammar = Grammar {
         "--board",
         "--memory",
         "--image",
+        "--display",
         "--smram",
         "--window",
         "--registers",
@@ -48,11 +49,11 @@ pub fn run(words: &[OsString]) -> Result<Status, Failure> {
     if sink.as_ref().is_some_and(|sink| *sink != Sink::Standard && sink.same(&Sink::Standard)) {
         return Err(options.usage("--svg names the file that the map is printed to"));
     }
-    options.one_standard_input(NOT_BOTH)?;
+    options.one_standard_input()?;
     if let Some(sink) = &sink {
-        options.spares("--svg", sink, options.sources().into_iter().chain(options.image()))?;
+        options.spares("--svg", sink, options.sources().into_iter().chain(options.image()).chain(options.display()))?;
     }
-    let memory = Memory::given(&options)?;
+    let memory = Memory::given(&options, board)?;
     let list = match options.source() {
         Ok(source) => traced(&options, &source)?,
         Err(_) => described(&options)?,
@@ -164,9 +165,11 @@ impl Map {
         match mapping.found {
             Found::Pages { page, kind, reach } => {
                 let pages = range((page.into(), u64::from(page) + 4096 * mapping.count() - 1));
+                let memory = if kind == 0b01 { "display cache" } else { "memory" };
                 match reach {
-                    Reach::Reached => format!("memory {pages}"),
+                    Reach::Reached => format!("{memory} {pages}"),
                     Reach::OtherMemory => style.bad(&format!("refused 5: type {kind:02b}")),
+                    Reach::AboveMemory if kind == 0b01 => style.bad(&format!("refused 7: {memory} {pages}")),
                     Reach::AboveMemory => style.bad(&format!("refused 7: {pages}")),
                     Reach::Protected => style.bad(&format!("refused 6: {pages}")),
                 }

@@ -1,7 +1,7 @@
 //! The names of refusals, beside those of a trace.
 
 pub use mitrophel::trace::names::*;
-use mitrophel::{Answer, Kind, Record, Refusal};
+use mitrophel::{Answer, Board, Kind, Record, Refusal};
 
 /// The refusals that an answer can hold, each with the short name that `--deny` takes.
 pub const REFUSALS: [(Refusal, &str); 12] = [
@@ -24,13 +24,27 @@ pub fn refusal_name(refusal: Refusal) -> &'static str {
     REFUSALS.iter().find(|(own, _)| *own == refusal).map_or("", |(_, name)| name)
 }
 
-/// The reason of a refusal, where nothing more is known of it than whether the table is in main memory: then a word of
-/// it gives codes 6 and 7, too.
-pub const fn refusal_reason(refusal: Refusal, table_in_memory: bool) -> &'static str {
-    match refusal {
-        Refusal::PageProtected if table_in_memory => "entry's page or table word is protected",
-        Refusal::PageAboveMemory if table_in_memory => "entry's page or table word is at or above the top of memory",
-        refusal => refusal.reason(),
+/// The reason of a refusal, where nothing more is known of it than the board, or not even that. Where the table is in
+/// main memory, a word of it gives codes 6 and 7, too; and where there is a display cache, entries of type 01 lead there.
+pub const fn refusal_reason(refusal: Refusal, board: Option<Board>) -> &'static str {
+    let (in_memory, display) = match board {
+        Some(board) => (board.table_in_memory(), board.display_bytes() != 0),
+        None => (true, true),
+    };
+    match (refusal, in_memory, display) {
+        (Refusal::EntryType, _, true) if board.is_some() => "entry's type is 10, or 01 with the display cache off",
+        (Refusal::EntryType, _, true) => "entry's type is 10, or 01 where no display cache is on",
+        (Refusal::EntryType, _, false) => "entry's type is 01 or 10",
+        (Refusal::PageProtected, true, _) => "entry's page or table word is protected",
+        (Refusal::PageAboveMemory, false, false) => "entry's page is at or above the top of memory",
+        (Refusal::PageAboveMemory, true, false) => "entry's page or table word is at or above the top of memory",
+        (Refusal::PageAboveMemory, false, true) => {
+            "entry's page is at or above the top of memory or of the display cache"
+        }
+        (Refusal::PageAboveMemory, true, true) => {
+            "entry's page or table word is at or above the top of memory, or its page that of the display cache"
+        }
+        (refusal, _, _) => refusal.reason(),
     }
 }
 
@@ -58,18 +72,22 @@ pub fn refused_offset(record: &Record, answer: &Answer) -> Option<u32> {
     (by_processor && in_window).then_some(answer.address)
 }
 
-/// The reason of a refusal in the window, where nothing more is known of it than that and the offset.
-pub fn refusal_reason_at(refusal: Refusal, table_in_memory: bool, offset: u32) -> String {
+/// The reason of a refusal in the window, where nothing more is known of it than that, the board and the offset.
+pub fn refusal_reason_at(refusal: Refusal, board: Board, offset: u32) -> String {
     let (entry, at) = (offset / 4096, format!("(window offset {offset:X}h)"));
-    let of_entry = if table_in_memory { "page or table word" } else { "page" };
+    let of_entry = if board.table_in_memory() { "page or table word" } else { "page" };
+    let (types, top) = match board.display_bytes() {
+        0 => ("01 or 10", "the top of memory"),
+        _ => ("10, or 01 with the display cache off", "the top of memory or of the display cache"),
+    };
     match refusal {
         Refusal::TranslationOff => format!("translation is off {at}"),
         Refusal::EntryNotValid => format!("entry {entry} {at} is not valid"),
-        Refusal::EntryType => format!("entry {entry} {at} has type 01 or 10"),
+        Refusal::EntryType => format!("entry {entry} {at} has type {types}"),
         Refusal::PageProtected => format!("{of_entry} of entry {entry} {at} is protected"),
-        Refusal::PageAboveMemory => format!("{of_entry} of entry {entry} {at} is at or above the top of memory"),
+        Refusal::PageAboveMemory => format!("{of_entry} of entry {entry} {at} is at or above {top}"),
         Refusal::FenceIllFormed => format!("the matching fence {at} is ill-formed"),
-        refusal => refusal_reason(refusal, table_in_memory).to_string(),
+        refusal => refusal_reason(refusal, Some(board)).to_string(),
     }
 }
 
@@ -82,11 +100,11 @@ pub fn refusal_named(text: &str) -> Option<Refusal> {
 
 #[cfg(test)]
 mod tests {
+    use super::super::load::Memory;
     use super::super::pair::{Pair, Step};
     use super::super::trace;
     use super::*;
     use mitrophel::reference::Rule;
-    use mitrophel::Board;
 
     /// Record and answer tell the window's refusals from all others, by the rule that the reference names.
     #[test]
@@ -103,7 +121,8 @@ mod tests {
             (Board::I82810, format!("{words}{first}")),
         ] {
             let records = trace::assemble(&text).expect("a trace").records;
-            let mut pair = Pair::new(board, [vec![0; 8 << 20], vec![0; 8 << 20]]);
+            let memory = Memory::zeros(board, 8 << 20);
+            let mut pair = Pair::new(board, [memory.fresh(), memory.fresh()]);
             let each = |step: &Step<'_, '_>| {
                 let refused = step.answer.code != 0;
                 let in_window = refused && step.rule == Some(Rule::Window);
@@ -119,20 +138,40 @@ mod tests {
 
     #[test]
     fn words_for_a_refusal_in_the_window() {
-        let told =
-            |code, in_memory| Refusal::from_code(code).map(|refusal| refusal_reason_at(refusal, in_memory, 0x12ABC));
+        let told = |code, board| Refusal::from_code(code).map(|refusal| refusal_reason_at(refusal, board, 0x12ABC));
         let entry = "entry 18 (window offset 12ABCh)";
-        assert_eq!(told(3, true), Some("translation is off (window offset 12ABCh)".to_string()));
-        assert_eq!(told(4, true), Some(format!("{entry} is not valid")));
-        assert_eq!(told(5, true), Some(format!("{entry} has type 01 or 10")));
-        assert_eq!(told(6, false), Some(format!("page of {entry} is protected")));
-        assert_eq!(told(6, true), Some(format!("page or table word of {entry} is protected")));
-        assert_eq!(told(7, false), Some(format!("page of {entry} is at or above the top of memory")));
-        assert_eq!(told(7, true), Some(format!("page or table word of {entry} is at or above the top of memory")));
-        assert_eq!(told(9, true), Some("the matching fence (window offset 12ABCh) is ill-formed".to_string()));
-        assert_eq!(told(10, true).as_deref(), Some(Refusal::NotExactlyRegister.reason()));
+        for board in Board::ALL {
+            let page = if board.table_in_memory() { "page or table word" } else { "page" };
+            let (types, top) = match board {
+                Board::I82810 | Board::I82810Main => ("01 or 10", "the top of memory"),
+                Board::Dc100 | Board::Dc100Main => {
+                    ("10, or 01 with the display cache off", "the top of memory or of the display cache")
+                }
+            };
+            assert_eq!(told(3, board), Some("translation is off (window offset 12ABCh)".to_string()));
+            assert_eq!(told(4, board), Some(format!("{entry} is not valid")));
+            assert_eq!(told(5, board), Some(format!("{entry} has type {types}")));
+            assert_eq!(told(6, board), Some(format!("{page} of {entry} is protected")));
+            assert_eq!(told(7, board), Some(format!("{page} of {entry} is at or above {top}")));
+            assert_eq!(told(9, board), Some("the matching fence (window offset 12ABCh) is ill-formed".to_string()));
+            assert_eq!(told(10, board).as_deref(), Some(Refusal::NotExactlyRegister.reason()));
+        }
         let with: Vec<u8> = Refusal::ALL.into_iter().filter(|own| holds_offset(*own)).map(Refusal::code).collect();
         assert_eq!(with, [3, 4, 5, 6, 7, 9]);
+    }
+
+    /// What is said of a parser's refusal and of all boards.
+    #[test]
+    fn a_reason_has_what_the_board_has() {
+        let of = |refusal| Board::ALL.map(|board| refusal_reason(refusal, Some(board)));
+        let types = of(Refusal::EntryType);
+        assert_eq!(types.map(|reason| reason.contains("display cache")), [false, true, false, true]);
+        let above = of(Refusal::PageAboveMemory);
+        assert_eq!(above.map(|reason| reason.contains("display cache")), [false, true, false, true]);
+        assert_eq!(above.map(|reason| reason.contains("table word")), [false, false, true, true]);
+        assert_eq!(refusal_reason(Refusal::PageAboveMemory, None), above[3]);
+        assert_eq!(refusal_reason(Refusal::EntryType, None), "entry's type is 10, or 01 where no display cache is on");
+        assert_eq!(of(Refusal::Width), [Refusal::Width.reason(); 4]);
     }
 
     #[test]

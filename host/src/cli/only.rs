@@ -27,6 +27,7 @@ pub const NAMES: &[(&str, Is)] = &[
     ("hub", |step| step.answer.target() == Some(Target::Hub)),
     ("vga", |step| step.answer.target() == Some(Target::Vga)),
     ("mmio", |step| step.answer.target() == Some(Target::MemoryMapped)),
+    ("display", |step| step.answer.target() == Some(Target::DisplayCache)),
     ("window", |step| step.rule == Some(Rule::Window)),
     ("error", |step| matches!(step.rule, Some(Rule::TsegError | Rule::HsegError))),
     ("interrupt", |step| step.answer.line != 0),

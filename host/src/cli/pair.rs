@@ -1,10 +1,11 @@
 //! The proved call with the reference beside it.
 //!
-//! The answers and the memory are the proved call's. The reference replays the same records one at a
+//! The answers and the memories are the proved call's. The reference replays the same records one at a
 //! time, so that each answer can be explained; the two must agree in every answer and in every byte of
-//! memory.
+//! main memory and of the display cache.
 
 use super::failure::Failure;
+use super::load::Lent;
 use super::names::{self, Bases};
 use super::told;
 use mitrophel::call::gmch_replay;
@@ -23,8 +24,10 @@ pub struct Heard {
     rule: Option<Rule>,
     /// It read or wrote protected memory.
     protected: bool,
-    /// The last place in memory that it read or wrote.
+    /// The last place in main memory that it read or wrote, unless the display cache came after it.
     last: Option<u32>,
+    /// It read or wrote the display cache.
+    display: bool,
     /// The last word of a table in main memory that it asked for.
     word: Option<TableWord>,
 }
@@ -37,6 +40,12 @@ impl Observer for Heard {
     fn touched(&mut self, touch: Touch) {
         self.protected |= touch.protected;
         self.last = Some(touch.address);
+    }
+
+    /// An address of the display cache is none of main memory.
+    fn display_touched(&mut self, _: Touch) {
+        self.last = None;
+        self.display = true;
     }
 
     fn table_word(&mut self, word: TableWord) {
@@ -84,10 +93,8 @@ pub struct Step<'a, 'm> {
 pub struct Pair {
     board: Board,
     call: Call,
-    proved: Vec<u8>,
-    beside: Vec<u8>,
-    /// The display cache of each, all zero at the start.
-    displays: [Vec<u8>; 2],
+    proved: Lent,
+    beside: Lent,
     /// A disagreement is told without values.
     hidden: bool,
     /// Memory whose values are never for everybody.
@@ -95,16 +102,15 @@ pub struct Pair {
 }
 
 impl Pair {
-    /// A board whose memory is given twice.
-    pub fn new(board: Board, memory: [Vec<u8>; 2]) -> Pair {
-        Pair::by(board, memory, gmch_replay)
+    /// A board whose memories are given twice.
+    pub fn new(board: Board, lent: [Lent; 2]) -> Pair {
+        Pair::by(board, lent, gmch_replay)
     }
 
     /// The same, with this call in the proved one's place.
-    pub fn by(board: Board, memory: [Vec<u8>; 2], call: Call) -> Pair {
-        let [proved, beside] = memory;
-        let displays = [vec![0; board.display_bytes()], vec![0; board.display_bytes()]];
-        Pair { board, call, proved, beside, displays, hidden: false, guarded: Vec::new() }
+    pub fn by(board: Board, lent: [Lent; 2], call: Call) -> Pair {
+        let [proved, beside] = lent;
+        Pair { board, call, proved, beside, hidden: false, guarded: Vec::new() }
     }
 
     /// The same, but a disagreement is told without values, any of which may be a key's.
@@ -117,18 +123,18 @@ impl Pair {
         Pair { guarded, ..self }
     }
 
-    /// The memory as the proved call left it.
-    pub fn memory(&self) -> &[u8] {
+    /// The memories as the proved call left them.
+    pub fn lent(&self) -> &Lent {
         &self.proved
     }
 
     /// The same, where nothing more is replayed.
-    pub fn into_memory(self) -> Vec<u8> {
+    pub fn into_lent(self) -> Lent {
         self.proved
     }
 
-    /// The same, and the reference's memory.
-    pub fn into_memories(self) -> [Vec<u8>; 2] {
+    /// The same, and the reference's.
+    pub fn into_both(self) -> [Lent; 2] {
         [self.proved, self.beside]
     }
 
@@ -155,13 +161,14 @@ impl Pair {
         E: FnMut(&Step<'_, '_>) -> Result<(), Failure>,
     {
         let mut answers = vec![0; records.len()];
-        let [display, display_beside] = &mut self.displays;
-        match (self.call)(self.board.number(), &mut self.proved, records, &mut answers, display) {
+        let Lent { memory, display } = &mut self.proved;
+        match (self.call)(self.board.number(), memory, records, &mut answers, display) {
             0 => {}
             code => return Err(Failure::disagreement(format!("the proved call refused good arguments with {code}"))),
         }
         let mut table = Box::new([0; TABLE_WORDS]);
-        let mut hub = Gmch::observed(self.board, &mut self.beside, &mut table, display_beside, Heard::default())
+        let Lent { memory, display } = &mut self.beside;
+        let mut hub = Gmch::observed(self.board, memory, &mut table, display, Heard::default())
             .ok_or_else(|| Failure::disagreement("the reference refuses a board that the proved call takes"))?;
         for (index, (record, answer)) in record::decode(records).zip(record::decode_answers(&answers)).enumerate() {
             let bases = Bases::of(&hub);
@@ -173,7 +180,8 @@ impl Pair {
             if answer != beside {
                 // The proved call may have reached what the reference keeps shut.
                 let leaked = match answer.target() {
-                    Some(Target::Memory) => hub.protected(answer.address),
+                    // It may have taken the one memory for the other.
+                    Some(Target::Memory | Target::DisplayCache) => guard.has(answer.address.into()),
                     Some(Target::MemoryMapped) => guard.has_what_is_meant(&record, bases),
                     _ => false,
                 };
@@ -195,8 +203,9 @@ impl Pair {
     }
 
     fn compare_memory(&self) -> Result<(), Failure> {
-        let [display, display_beside] = &self.displays;
-        let memories = [("memory", &self.proved, &self.beside), ("the display cache", display, display_beside)];
+        let (proved, beside) = (&self.proved, &self.beside);
+        let memories =
+            [("memory", &proved.memory, &beside.memory), ("the display cache", &proved.display, &beside.display)];
         let Some((name, proved, beside)) = memories.into_iter().find(|(_, proved, beside)| proved != beside) else {
             return Ok(());
         };
@@ -209,7 +218,7 @@ impl Pair {
 /// Whether an answer, or what is to be said of it, holds the page that the table word names, or the word itself.
 fn names_a_page(answer: &Answer, heard: &Heard) -> bool {
     let by_entry = match answer.refusal() {
-        None => answer.target() == Some(Target::Memory),
+        None => matches!(answer.target(), Some(Target::Memory | Target::DisplayCache)),
         Some(Refusal::EntryNotValid | Refusal::EntryType | Refusal::PageProtected | Refusal::PageAboveMemory) => true,
         Some(_) => false,
     };
@@ -230,11 +239,13 @@ impl Guard<'_, '_> {
     }
 
     /// Whether a record's value is of such memory. A write that is refused has a value too, one of management mode
-    /// that went elsewhere was meant for it, and the word that the parser does not know is shown.
+    /// that went elsewhere was meant for it, and the word that the parser does not know is shown. What went to the
+    /// display cache, which is never protected, is shown.
     fn hides_value(&self, record: &Record, answer: &Answer, heard: &Heard, bases: Bases) -> bool {
+        let nowhere = heard.last.is_none() && !heard.display;
         match record.kind() {
             Some(Kind::Run) if answer.refusal() != Some(Refusal::UnknownInstruction) => heard.protected,
-            Some(kind) if kind.is_write() && (answer.code != 0 || record.is_management() && heard.last.is_none()) => {
+            Some(kind) if kind.is_write() && (answer.code != 0 || record.is_management() && nowhere) => {
                 self.has_what_is_meant(record, bases)
             }
             // It may have read a table word, which is not its value.
@@ -358,11 +369,12 @@ pub mod wrong {
 #[cfg(test)]
 mod tests {
     use super::super::failure::Status;
+    use super::super::load::Memory;
     use super::super::trace;
     use super::*;
 
-    fn memory() -> [Vec<u8>; 2] {
-        [vec![0; 8 << 20], vec![0; 8 << 20]]
+    fn memory(board: Board) -> [Lent; 2] {
+        [(); 2].map(|()| Memory::zeros(board, 8 << 20).fresh())
     }
 
     /// Answers as the proved call does, but leaves a byte of memory other than it should.
@@ -400,23 +412,27 @@ mod tests {
             seen += 1;
             Ok(())
         };
-        let mut pair = Pair::by(Board::I82810, memory(), wrong::unlocking);
+        let mut pair = Pair::by(Board::I82810, memory(Board::I82810), wrong::unlocking);
         let failure = pair.replay(&records, &mut count).expect_err("a faulty call");
         assert_eq!(failure.status, Status::Disagreement);
         assert!(failure.message.contains("DISAGREE at record 5 of the call: in1 CONFIG_DATA"), "{}", failure.message);
         assert_eq!(seen, 4);
-        Pair::new(Board::I82810, memory()).replay(&records, |_| Ok(())).expect("the two agree");
+        Pair::new(Board::I82810, memory(Board::I82810)).replay(&records, |_| Ok(())).expect("the two agree");
     }
 
     #[test]
     fn a_different_byte_of_memory_is_told_loudly() {
-        let mut pair = Pair::by(Board::I82810, memory(), scribbling);
+        let mut pair = Pair::by(Board::I82810, memory(Board::I82810), scribbling);
         let failure = pair.replay(&[], |_| Ok(())).expect_err("a scribbling call");
         assert_eq!(failure.status, Status::Disagreement);
         assert!(failure.message.contains("about memory: byte 1234h differs"), "{}", failure.message);
-        let failure = Pair::by(Board::I82810, memory(), scribbling).look(&[], |hub| hub.tom()).expect_err("the same");
+        let failure = Pair::by(Board::I82810, memory(Board::I82810), scribbling)
+            .look(&[], |hub| hub.tom())
+            .expect_err("the same");
         assert_eq!(failure.status, Status::Disagreement);
-        let failure = Pair::by(Board::I82810, memory(), refusing).replay(&[], |_| Ok(())).expect_err("a refusing call");
+        let failure = Pair::by(Board::I82810, memory(Board::I82810), refusing)
+            .replay(&[], |_| Ok(()))
+            .expect_err("a refusing call");
         assert_eq!(failure.status, Status::Disagreement);
     }
 
@@ -424,9 +440,9 @@ mod tests {
     fn a_key_that_only_the_call_reaches_is_not_shown() {
         let mut records = smram(0x10).to_vec();
         records.push(Record::read(0xA_0000, 4, true));
-        let memory = memory().map(|mut memory| {
-            memory[0xA_0000..0xA_0004].fill(0x5A);
-            memory
+        let memory = memory(Board::I82810).map(|mut lent| {
+            lent.memory[0xA_0000..0xA_0004].fill(0x5A);
+            lent
         });
         let mut pair = Pair::by(Board::I82810, memory, wrong::opening);
         let failure = pair.replay(&record::encode(&records), |_| Ok(())).expect_err("a leaking call");
@@ -449,9 +465,9 @@ mod tests {
         for (access, call) in accesses {
             let records = trace::assemble(&format!("{setup}{access}\n")).expect("a trace").records;
             for hidden in [false, true] {
-                let memory = memory().map(|mut memory| {
-                    memory[0xA_0000..0xA_1000].as_chunks_mut().0.fill(key);
-                    memory
+                let memory = memory(Board::I82810Main).map(|mut lent| {
+                    lent.memory[0xA_0000..0xA_1000].as_chunks_mut().0.fill(key);
+                    lent
                 });
                 let pair = Pair::by(Board::I82810Main, memory, call);
                 let mut pair = if hidden { pair.without_values() } else { pair };
@@ -478,9 +494,9 @@ mod tests {
             (Board::I82810, 4, 0x1_2000_u32, "00 20 01 00 ", false),
             (Board::I82810Main, 6, 0x005A_1001, "00 00 00 00 ", true),
         ] {
-            let memory = memory().map(|mut memory| {
-                memory[0xA_0000..0xA_1000].as_chunks_mut().0.fill(word.to_le_bytes());
-                memory
+            let memory = memory(board).map(|mut lent| {
+                lent.memory[0xA_0000..0xA_1000].as_chunks_mut().0.fill(word.to_le_bytes());
+                lent
             });
             let failure = Pair::by(board, memory, pointing).replay(&records, |_| Ok(())).expect_err("a wrong offset");
             assert_eq!(failure.status, Status::Disagreement);
@@ -529,9 +545,9 @@ mod tests {
             records.push(Record::io_read(0xCF8, 4));
         }
         let bytes = record::encode(&records);
-        let mut whole = Pair::new(Board::I82810, memory());
+        let mut whole = Pair::new(Board::I82810, memory(Board::I82810));
         let expected = whole.replay(&bytes, |_| Ok(())).expect("the two agree");
-        let mut cut = Pair::new(Board::I82810, memory());
+        let mut cut = Pair::new(Board::I82810, memory(Board::I82810));
         let mut answers = Vec::new();
         let resets = (0..records.len()).filter(|&at| records[at] == Record::reset());
         let edges: Vec<usize> = [0].into_iter().chain(resets).chain([records.len()]).collect();
@@ -539,6 +555,6 @@ mod tests {
             answers.extend(cut.replay(&bytes[16 * edge[0]..16 * edge[1]], |_| Ok(())).expect("the two agree"));
         }
         assert!(answers == expected);
-        assert!(cut.memory() == whole.memory());
+        assert!(cut.lent() == whole.lent());
     }
 }

@@ -1,10 +1,10 @@
 //! `replay`.
 
-use super::args::{Grammar, Options, NOT_BOTH};
+use super::args::{Grammar, Options};
 use super::expect::Expectations;
 use super::failure::{Failure, Status};
 use super::files::{self, Pending, Secrecy, Sink, Source};
-use super::load::{List, Memory};
+use super::load::{Lent, List, Memory};
 use super::numbers;
 use super::only::Only;
 use super::pair::{Call, Pair, Step};
@@ -21,7 +21,17 @@ use std::ops::Range;
 
 pub const GRAMMAR: Grammar = Grammar {
     command: "replay",
-    values: &["--board", "--memory", "--image", "--only", "--answers", "--dump", "--color"],
+    values: &[
+        "--board",
+        "--memory",
+        "--image",
+        "--display",
+        "--only",
+        "--answers",
+        "--dump",
+        "--dump-display",
+        "--color",
+    ],
     switches: &[
         "--check",
         "--bless",
@@ -50,8 +60,9 @@ fn run_by(words: &[OsString], call: Call) -> Result<Status, Failure> {
     let source = options.source()?;
     let task = Task::given(&options, &source)?;
     let outputs = Outputs::given(&options, &source, !matches!(task, Task::Silent))?;
-    options.one_standard_input(NOT_BOTH)?;
-    let memory = Memory::given(&options)?;
+    options.has_display("--dump-display", board)?;
+    options.one_standard_input()?;
+    let memory = Memory::given(&options, board)?;
     let bytes = source.read()?;
     let text = matches!(task, Task::Bless { .. }).then(|| bytes.clone());
     let list = List::of(&source, bytes, form)?;
@@ -85,7 +96,7 @@ fn run_by(words: &[OsString], call: Call) -> Result<Status, Failure> {
     // A reader of the lines who leaves before the end wants no more lines; the dump is for another.
     match printed {
         Err(failure) if failure.status != Status::ClosedPipe => Err(failure),
-        printed => outputs.write(&answers, pair.into_memory(), &guarded).and(printed),
+        printed => outputs.write(&answers, pair.into_lent(), &guarded).and(printed),
     }
 }
 
@@ -238,71 +249,80 @@ impl Guarded {
     }
 }
 
-/// `--answers` and `--dump`
+/// `--answers`, `--dump` and `--dump-display`
 struct Outputs {
     answers: Option<Sink>,
     dump: Option<Sink>,
+    display: Option<Sink>,
     /// `--redact`: the dump has zeros where memory was protected.
     redact: bool,
 }
 
 impl Outputs {
+    /// Those that are given, with their options.
+    fn all(&self) -> impl Iterator<Item = (&'static str, &Sink)> {
+        let all = [("--answers", &self.answers), ("--dump", &self.dump), ("--dump-display", &self.display)];
+        all.into_iter().filter_map(|(name, sink)| Some((name, sink.as_ref()?)))
+    }
+
     fn is_none(&self) -> bool {
-        self.answers.is_none() && self.dump.is_none()
+        self.all().next().is_none()
     }
 
     /// `printed` says that something is printed beside them.
     fn given(options: &Options, source: &Source, printed: bool) -> Result<Outputs, Failure> {
+        let sink = |name: &str| options.value(name).map(Sink::named);
         let outputs = Outputs {
-            answers: options.value("--answers").map(Sink::named),
-            dump: options.value("--dump").map(Sink::named),
+            answers: sink("--answers"),
+            dump: sink("--dump"),
+            display: sink("--dump-display"),
             redact: options.has("--redact"),
         };
         if outputs.redact && outputs.dump.is_none() {
             return Err(options.usage("--redact is about the dump: give --dump FILE"));
         }
-        if outputs.answers.as_ref().zip(outputs.dump.as_ref()).is_some_and(|(answers, dump)| dump.same(answers)) {
-            return Err(options.usage("--answers and --dump name the same file"));
+        for (number, (name, sink)) in outputs.all().enumerate() {
+            if let Some((other, _)) = outputs.all().skip(number + 1).find(|(_, other)| other.same(sink)) {
+                return Err(options.usage(format!("{name} and {other} name the same file")));
+            }
         }
-        let both = [("--answers", &outputs.answers), ("--dump", &outputs.dump)];
-        let among = |(_, sink): &(&str, &Option<Sink>)| sink.as_ref().is_some_and(|sink| sink.same(&Sink::Standard));
-        if let Some((name, sink)) = both.into_iter().find(among).filter(|_| printed) {
+        if let Some((name, sink)) = outputs.all().find(|(_, sink)| sink.same(&Sink::Standard)).filter(|_| printed) {
             return Err(options.usage(match sink {
-                Some(Sink::Standard) if outputs.answers.is_none() => {
-                    "--dump - needs --answers FILE, since the answers are printed otherwise".to_string()
+                Sink::Standard if outputs.answers.is_none() => {
+                    format!("{name} - needs --answers FILE, since the answers are printed otherwise")
                 }
-                Some(Sink::Standard) => format!("{name} - would stand among what is printed: give a file"),
+                Sink::Standard => format!("{name} - would stand among what is printed: give a file"),
                 _ => format!("{name} names the file that the answers are printed to"),
             }));
         }
-        if let Some(dump) = &outputs.dump {
-            // Not the image: a dump may take its place, to go on from.
-            options.spares("--dump", dump, [source.clone()])?;
+        for (name, sink) in outputs.all() {
+            // A dump may take the place of what it goes on from.
+            let image = options.image().filter(|_| name != "--dump");
+            let display = options.display().filter(|_| name != "--dump-display");
+            options.spares(name, sink, [source.clone()].into_iter().chain(image).chain(display))?;
         }
-        if let Some(answers) = &outputs.answers {
-            options.spares("--answers", answers, [source.clone()].into_iter().chain(options.image()))?;
-        }
-        let standard = [&outputs.answers, &outputs.dump].contains(&&Some(Sink::Standard));
-        if standard && io::stdout().is_terminal() {
+        if outputs.all().any(|(_, sink)| *sink == Sink::Standard) && io::stdout().is_terminal() {
             return Err(options.usage("answers and memory are no text for a terminal: give a file, or pipe them"));
         }
         Ok(outputs)
     }
 
-    /// Writes both whole before either stands in its place. A reader of one who leaves does not keep the
-    /// other from being written.
-    fn write(&self, answers: &[u8], mut memory: Vec<u8>, guarded: &Guarded) -> Result<(), Failure> {
+    /// Writes all of them whole before any stands in its place. A reader of one who leaves does not keep the
+    /// others from being written.
+    fn write(&self, answers: &[u8], mut lent: Lent, guarded: &Guarded) -> Result<(), Failure> {
         if self.redact {
-            guarded.ranges.iter().for_each(|range| memory[range.start as usize..range.end as usize].fill(0));
+            guarded.ranges.iter().for_each(|range| lent.memory[range.start as usize..range.end as usize].fill(0));
         }
         let holds_secrets = !self.redact && !guarded.ranges.is_empty();
         let pending = |sink: &Option<Sink>, bytes, secret| {
             sink.as_ref().map(|sink| Pending::new(sink, bytes, Secrecy::of(secret))).transpose()
         };
         let answers = pending(&self.answers, answers, guarded.answers)?;
-        let dump = pending(&self.dump, &memory, holds_secrets)?;
+        let dump = pending(&self.dump, &lent.memory, holds_secrets)?;
+        // It is never protected.
+        let display = pending(&self.display, &lent.display, false)?;
         let mut result = Ok(());
-        for pending in [answers, dump].into_iter().flatten() {
+        for pending in [answers, dump, display].into_iter().flatten() {
             match pending.commit() {
                 Err(failure) if failure.status == Status::ClosedPipe => result = Err(failure),
                 committed => committed?,

@@ -8,7 +8,7 @@ mod dump;
 mod registers;
 mod ring;
 
-use super::args::{Grammar, NOT_BOTH};
+use super::args::Grammar;
 use super::failure::{Failure, Status};
 use super::load::{List, Memory};
 use super::pair::{Hub, Pair};
@@ -24,7 +24,7 @@ use std::ops::Range;
 
 pub const GRAMMAR: Grammar = Grammar {
     command: "state",
-    values: &["--board", "--memory", "--image", "--color"],
+    values: &["--board", "--memory", "--image", "--display", "--color"],
     switches: &["--text", "--binary", "--lspci"],
     files: 1,
 };
@@ -36,8 +36,8 @@ pub fn run(words: &[OsString]) -> Result<Status, Failure> {
     let style = Style::new(options.colour()?);
     let form = options.form()?;
     let source = options.source()?;
-    options.one_standard_input(NOT_BOTH)?;
-    let memory = Memory::given(&options)?;
+    options.one_standard_input()?;
+    let memory = Memory::given(&options, board)?;
     let list = List::read(&source, form)?;
     let guarded = list.guarded(memory.length());
     let mut pair = Pair::new(board, [memory.fresh(), memory.fresh()]).guarding(guarded.clone());
@@ -103,6 +103,10 @@ fn memory(page: &mut Page, hub: &Hub<'_>) {
     for range in hub.protected_ranges() {
         page.row(&format!("protected  {:8X}h", range.start), &format!("to {:X}h", range.end - 1));
     }
+    if let Some(on) = survey::display_on(hub) {
+        let words = format!("the display cache's length; it is {}", words::display(on));
+        page.row(&format!("display    {:8X}h", hub.board().display_bytes()), &words);
+    }
 }
 
 /// The valid entries of the translation table, and where it is in main memory.
@@ -124,7 +128,7 @@ fn table(page: &mut Page, table: &Table) {
             Found::Pages { page, .. } => Some((page.into(), u64::from(page) + 4096 * mapping.count() - 1)),
             Found::Refused(_) | Found::Hidden => table.places(mapping),
         };
-        let (tone, words) = reached(mapping);
+        let (tone, words) = reached(mapping, table.display);
         page.toned(&row(&mapping.entries(), range.unwrap_or_default()), &words, tone);
     }
     if left != 0 {
@@ -132,24 +136,28 @@ fn table(page: &mut Page, table: &Table) {
     }
 }
 
-/// What a mapping reaches, or its refusal.
-fn reached(mapping: &Mapping) -> (Tone, String) {
+/// What a mapping reaches, or its refusal; `display` says whether the display cache is on, where there is one.
+fn reached(mapping: &Mapping, display: Option<bool>) -> (Tone, String) {
     let (kind, reach) = match mapping.found {
         Found::Pages { kind, reach, .. } => (kind, reach),
         Found::Refused(Refusal::PageProtected) => return (Tone::Refused, "refused 6: in protected memory".to_string()),
         Found::Refused(_) => return (Tone::Refused, "refused 7: at or above TOM".to_string()),
         Found::Hidden => return (Tone::Reached, REDACTED.to_string()),
     };
-    let kind = match kind {
+    let name = match kind {
         0b01 => "display cache (type 01)",
         0b10 => "type 10",
         0b11 => "main memory (type 11)",
         _ => "main memory",
     };
     match reach {
-        Reach::Reached => (Tone::Reached, kind.to_string()),
-        Reach::OtherMemory => (Tone::Refused, format!("refused 5: {kind}")),
-        Reach::Protected => (Tone::Refused, format!("refused 6: protected {kind}")),
+        Reach::Reached => (Tone::Reached, name.to_string()),
+        Reach::OtherMemory if kind == 0b01 && display == Some(false) => {
+            (Tone::Refused, format!("refused 5: {name}, off"))
+        }
+        Reach::OtherMemory => (Tone::Refused, format!("refused 5: {name}")),
+        Reach::Protected => (Tone::Refused, format!("refused 6: protected {name}")),
+        Reach::AboveMemory if kind == 0b01 => (Tone::Refused, "refused 7: past the display cache".to_string()),
         Reach::AboveMemory => (Tone::Refused, "refused 7: at or above TOM".to_string()),
     }
 }

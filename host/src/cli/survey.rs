@@ -12,7 +12,7 @@ use super::pair::{Pair, Step};
 use super::{names, numbers, words};
 use mitrophel::record::{self, MAX_RECORDS, RECORD_BYTES};
 use mitrophel::reference::{Gmch, Observer, Rule, Smram, TABLE_WORDS};
-use mitrophel::{Board, Record, Refusal};
+use mitrophel::{Board, Record, Refusal, DISPLAY_BYTES};
 use std::ops::Range;
 
 /// Where one kind of access goes.
@@ -95,10 +95,31 @@ impl Mapping {
 /// What becomes of a valid entry.
 #[derive(Clone, Copy, Debug, PartialEq, Eq)]
 pub enum Reach {
+    /// Main memory, or the display cache with type 01.
     Reached,
+    /// No memory is of its type, or the display cache is off.
     OtherMemory,
+    /// At or above the end of the memory of its type.
     AboveMemory,
     Protected,
+}
+
+impl Reach {
+    /// Of an entry of this type and page.
+    fn of<O: Observer>(hub: &Gmch<'_, O>, kind: u32, page: u32) -> Reach {
+        let length = match (kind, display_on(hub)) {
+            (0b01, Some(true)) => hub.board().display_bytes() as u32,
+            (0b01 | 0b10, _) => return Reach::OtherMemory,
+            _ => hub.tom(),
+        };
+        if page >= length {
+            Reach::AboveMemory
+        } else if kind != 0b01 && hub.protected(page) {
+            Reach::Protected
+        } else {
+            Reach::Reached
+        }
+    }
 }
 
 /// The translation table.
@@ -107,6 +128,8 @@ pub struct Table {
     pub translation: bool,
     /// The first word's address, where the table is in main memory.
     pub home: Option<u64>,
+    /// Whether the display cache is on, where there is one.
+    pub display: Option<bool>,
     pub mappings: Vec<Mapping>,
 }
 
@@ -121,16 +144,8 @@ impl Table {
             Ok(word) => Word::Shown(word),
             Err(refusal) => Word::Refused(refusal),
         });
-        let mappings = runs(words, |page| {
-            if page >= hub.tom() {
-                Reach::AboveMemory
-            } else if hub.protected(page) {
-                Reach::Protected
-            } else {
-                Reach::Reached
-            }
-        });
-        Table { translation: translation_on(hub), home: hub.table_word_address(0), mappings }
+        let mappings = runs(words, |kind, page| Reach::of(hub, kind, page));
+        Table { translation: translation_on(hub), home: hub.table_word_address(0), display: display_on(hub), mappings }
     }
 
     /// The mappings that are shown, and how many entries the others have.
@@ -232,22 +247,28 @@ pub fn config_write(device: usize, at: u32, width: u8, data: u32) -> [Record; 2]
 /// Pages from here on are named by no entry: "page 29:12".
 const PAST_PAGES: u32 = 0x4000_0000;
 
-/// What graphics meets at each page that an entry can name: code 0, 6 or 7.
+/// Pages on both sides of the display cache's ends.
+fn display_pages() -> [u32; 3] {
+    [0, DISPLAY_BYTES as u32 - 4096, DISPLAY_BYTES as u32]
+}
+
+/// What graphics meets with each of these table words.
 ///
-/// Pages are protected or not by SMRAM and the memory's length alone, and locked or not. So it is asked on
-/// a board that is like the one in force in these, with the window and the registers above all memory; and
-/// with graphics on, which protects nothing and without which there is no window.
-fn graphics_codes(pair: &mut Pair, smram: u8, pages: &[u32]) -> Result<Vec<u8>, Failure> {
+/// Pages are protected or not by SMRAM and the memory's length alone, and locked or not; and the display cache is on or
+/// off by DRT alone. So it is asked on a board that is like the one in force in these, with the window and the registers
+/// above all memory; and with graphics on, which protects nothing and without which there is no window.
+fn graphics_codes(pair: &mut Pair, smram: u8, drt: Option<u32>, words: &[u32]) -> Result<Vec<u8>, Failure> {
     const WINDOW: u32 = 0xC000_0000;
     const REGISTERS: u32 = 0xF000_0000;
     let on = if Smram(smram).graphics_on() { smram } else { smram | 0x40 };
     let writes = [(0, 0x70, 1, on.into()), (1, 0x10, 4, WINDOW), (1, 0x14, 4, REGISTERS), (1, 0x04, 1, 0x06)];
     let mut records: Vec<Record> =
         writes.into_iter().flat_map(|(device, at, width, data)| config_write(device, at, width, data)).collect();
-    records.push(Record::write(REGISTERS + 0x2020, 4, 1, false));
+    records.push(Record::write(REGISTERS + names::PGTBL_CTL, 4, 1, false));
+    records.extend(drt.map(|drt| Record::write(REGISTERS + names::DRT, 1, drt, false)));
     let first = records.len();
-    for page in pages {
-        records.push(Record::write(REGISTERS + names::entry_offset(0), 4, page | 1, false));
+    for word in words {
+        records.push(Record::write(REGISTERS + names::entry_offset(0), 4, *word, false));
         records.push(Record::read(WINDOW, 4, false));
     }
     let answers = pair.replay(&record::encode(&records), |_| Ok(()))?;
@@ -279,8 +300,11 @@ impl Map {
             Ok(())
         })?;
         let smram = record::decode_answers(&answers).nth(first + 1).unwrap_or_default().value as u8;
-        let pages: Vec<u32> = asked.edges.iter().copied().filter(|edge| *edge < PAST_PAGES).collect();
-        asked.graphics = graphics_codes(&mut pair, smram, &pages)?;
+        let pages = asked.edges.iter().filter(|edge| **edge < PAST_PAGES).map(|page| page | 0b001);
+        let display = display_pages().map(|page| page | 0b011);
+        let words: Vec<u32> = pages.chain(display).collect();
+        asked.graphics = graphics_codes(&mut pair, smram, asked.drt, &words)?;
+        asked.display = asked.graphics.split_off(words.len() - display.len());
         Ok(asked.finish())
     }
 }
@@ -304,6 +328,9 @@ struct Asked {
     rules: Vec<Option<Rule>>,
     /// What graphics meets at the edges that are pages.
     graphics: Vec<u8>,
+    /// DRT, and what entries of type 01 meet at [`display_pages`], where there is a display cache.
+    drt: Option<u32>,
+    display: Vec<u8>,
     usable_top: u32,
     title: String,
     lines: Vec<String>,
@@ -340,11 +367,13 @@ impl Asked {
         } else {
             self.lines.push("Window and registers are off.".to_string());
         }
+        self.drt = hub.register(names::DRT);
         self.table = Table::of(hub, &self.guarded);
-        self.lines.extend(self.table.line());
     }
 
-    fn finish(self) -> Map {
+    fn finish(mut self) -> Map {
+        self.lines.extend(self.display_line());
+        self.lines.extend(self.table.line());
         let mut rows: Vec<Row> = Vec::new();
         for (at, &first) in self.edges.iter().enumerate() {
             let last = self.edges.get(at + 1).map_or(u32::MAX, |next| next - 1);
@@ -355,6 +384,18 @@ impl Asked {
             }
         }
         Map { title: self.title, lines: self.lines, rows, table: self.table }
+    }
+
+    /// What the reader of a map is told of the display cache.
+    fn display_line(&self) -> Option<String> {
+        self.drt?;
+        let size = numbers::bytes(DISPLAY_BYTES as u64);
+        let on = self.display == [0, 0, Refusal::PageAboveMemory.code()];
+        let reached = match on {
+            true => format!("entries of type 01 reach its pages, 0h to {:X}h", DISPLAY_BYTES - 4096),
+            false => "every entry of type 01 is refused 5".to_string(),
+        };
+        Some(format!("Display cache: {size}, {}; {reached}.", words::display(on)))
     }
 
     fn row(&self, at: usize, first: u32, last: u32) -> Option<Row> {
@@ -428,7 +469,12 @@ fn management(data: Rule, code: Rule) -> Cell {
 
 /// PGTBL_CTL bit 0.
 pub fn translation_on<O: Observer>(hub: &Gmch<'_, O>) -> bool {
-    hub.register(0x2020).is_some_and(|control| control & 1 != 0)
+    hub.register(names::PGTBL_CTL).is_some_and(|control| control & 1 != 0)
+}
+
+/// Whether the display cache is on, where the board has one.
+pub fn display_on<O: Observer>(hub: &Gmch<'_, O>) -> Option<bool> {
+    (hub.board().display_bytes() != 0).then(|| hub.display_on())
 }
 
 /// A word of the table as a reader is shown it.
@@ -439,16 +485,15 @@ enum Word {
     Hidden,
 }
 
-/// The words in runs, but for those that are not valid; `reach` says what becomes of a page of main memory.
-fn runs(words: impl IntoIterator<Item = Word>, reach: impl Fn(u32) -> Reach) -> Vec<Mapping> {
+/// The words in runs, but for those that are not valid; `reach` says what becomes of a type and a page.
+fn runs(words: impl IntoIterator<Item = Word>, reach: impl Fn(u32, u32) -> Reach) -> Vec<Mapping> {
     let mut mappings: Vec<Mapping> = Vec::new();
     for (entry, word) in (0..).zip(words) {
         let found = match word {
             Word::Shown(word) if word & 1 == 0 => continue,
             Word::Shown(word) => {
-                let (page, kind) = (words::entry_page(word), word >> 1 & 3);
-                let reach = if matches!(kind, 1 | 2) { Reach::OtherMemory } else { reach(page) };
-                Found::Pages { page, kind, reach }
+                let (page, kind) = (words::entry_page(word), words::entry_kind(word));
+                Found::Pages { page, kind, reach: reach(kind, page) }
             }
             Word::Refused(refusal) => Found::Refused(refusal),
             Word::Hidden => Found::Hidden,
@@ -483,6 +528,7 @@ pub fn last_call<'a>(pair: &mut Pair, list: &'a List) -> Result<&'a [u8], Failur
 
 #[cfg(test)]
 mod tests {
+    use super::super::load::Lent;
     use super::*;
     use mitrophel::call::gmch_replay;
     use mitrophel::reference::Observer;
@@ -506,7 +552,7 @@ mod tests {
     /// A board that the proved call is asked about.
     struct Proved {
         board: Board,
-        memory: Vec<u8>,
+        lent: Lent,
     }
 
     impl Proved {
@@ -514,8 +560,8 @@ mod tests {
         fn asked(&mut self, list: &[Record], last: usize) -> Vec<Answer> {
             let records = record::encode(list);
             let mut answers = vec![0; records.len()];
-            let mut display = vec![0; self.board.display_bytes()];
-            assert_eq!(gmch_replay(self.board.number(), &mut self.memory, &records, &mut answers, &mut display), 0);
+            let Lent { memory, display } = &mut self.lent;
+            assert_eq!(gmch_replay(self.board.number(), memory, &records, &mut answers, display), 0);
             record::decode_answers(&answers).skip(list.len() - last).collect()
         }
 
@@ -569,7 +615,7 @@ mod tests {
     /// and inside, by the reference and by the proved call, and the rows cover all addresses. How many were asked.
     fn every_row_is_right(board: Board, smrams: impl Iterator<Item = u32>) -> usize {
         let bases = [(0, 0), (0xC000_0000, 0xF000_0000), (0xFC00_0000, 0xFFF8_0000), (0, 0x0200_0000), (0, 0x10_0000)];
-        let memory = Memory::zeros(8 << 20);
+        let memory = Memory::zeros(board, 8 << 20);
         let mut asked = 0;
         for smram in smrams {
             // Every other one locked.
@@ -597,10 +643,10 @@ mod tests {
     }
 
     fn check(map: &Map, board: Board, memory: &Memory, setup: &[Record], smram: u32) -> usize {
-        let mut proved = Proved { board, memory: memory.fresh() };
-        let (mut bytes, mut table) = (memory.fresh(), Box::new([0; TABLE_WORDS]));
-        let mut display = vec![0; board.display_bytes()];
-        let mut hub = Gmch::observed(board, &mut bytes, &mut table, &mut display, Heard::default()).expect("a board");
+        let mut proved = Proved { board, lent: memory.fresh() };
+        let (mut lent, mut table) = (memory.fresh(), Box::new([0; TABLE_WORDS]));
+        let Lent { memory, display } = &mut lent;
+        let mut hub = Gmch::observed(board, memory, &mut table, display, Heard::default()).expect("a board");
         for record in setup {
             hub.answer(record);
         }
@@ -639,7 +685,11 @@ mod tests {
         table[9] = 0x0080_1003;
         table[10] = 0x0080_2003;
         table[11] = 0x0080_4003;
-        let reach = |page| if page >= 0x80_0000 { Reach::AboveMemory } else { Reach::Reached };
+        let reach = |kind, page| match kind {
+            0b01 | 0b10 => Reach::OtherMemory,
+            _ if page >= 0x80_0000 => Reach::AboveMemory,
+            _ => Reach::Reached,
+        };
         let mapping =
             |first, last, page, kind, reach| Mapping { first, last, found: Found::Pages { page, kind, reach } };
         let expected = [
@@ -653,6 +703,43 @@ mod tests {
             mapping(11, 11, 0x80_4000, 0b01, Reach::OtherMemory),
         ];
         assert_eq!(runs(table.map(Word::Shown), reach), expected);
+    }
+
+    /// Request 11 of document 02: what an entry of each type reaches, on each board, with DRT's bit 0 at 0 and at 1.
+    #[test]
+    fn entries_reach_the_memory_of_their_type() {
+        // The key's page, the first and the last page of memory and of the display cache, and the first past them.
+        let pages = [0xA_0000, 0, 0x3F_F000, 0x40_0000, 0x7F_F000, 0x80_0000];
+        let main =
+            [Reach::Protected, Reach::Reached, Reach::Reached, Reach::Reached, Reach::Reached, Reach::AboveMemory];
+        let cache = [
+            Reach::Reached,
+            Reach::Reached,
+            Reach::Reached,
+            Reach::AboveMemory,
+            Reach::AboveMemory,
+            Reach::AboveMemory,
+        ];
+        let none = [Reach::OtherMemory; 6];
+        for (board, drt) in Board::ALL.into_iter().flat_map(|board| [(board, 0), (board, 1)]) {
+            let (mut lent, mut table) = (Memory::zeros(board, 8 << 20).fresh(), Box::new([0; TABLE_WORDS]));
+            let Lent { memory, display } = &mut lent;
+            let mut hub = Gmch::new(board, memory, &mut table, display).expect("a board");
+            let mut records = setup(0x4C, 0xC000_0000, 0xF000_0000, 0);
+            records.push(Record::write(0xF000_0000 + names::DRT, 1, drt, false));
+            records.iter().for_each(|record| assert_eq!(hub.answer(record).code, 0));
+            let with = board.display_bytes() != 0;
+            assert_eq!(display_on(&hub), with.then_some(drt == 1));
+            for (kind, expected) in
+                [(0b00, main), (0b01, if with && drt == 1 { cache } else { none }), (0b10, none), (0b11, main)]
+            {
+                assert_eq!(
+                    pages.map(|page| Reach::of(&hub, kind, page)),
+                    expected,
+                    "{board}, DRT {drt}, type {kind:02b}"
+                );
+            }
+        }
     }
 
     /// A hub with its table in main memory, at the base that PGTBL_CTL is given, in a memory of 8 MiB.
@@ -678,7 +765,7 @@ mod tests {
         let pages = Found::Pages { page: 0x10_0000, kind: 0, reach: Reach::Reached };
         let shut = table_in_memory(0x4C, 0x9_F001, &words, 0xA_0000..0xC_0000);
         let expected = [mapping(1022, 1023, pages), mapping(1024, 16383, Found::Refused(Refusal::PageProtected))];
-        assert_eq!(shut, Table { translation: true, home: Some(0x9_F000), mappings: expected.to_vec() });
+        assert_eq!(shut, Table { translation: true, home: Some(0x9_F000), display: None, mappings: expected.to_vec() });
         assert_eq!(shut.places(&expected[1]), Some((0xA_0000, 0xA_EFFF)));
         assert_eq!((shut.home(), shut.refusal()), (Some((0x9_F000, 0xA_EFFF)), None));
         // Open now, and protected at another time.

@@ -2,6 +2,7 @@
 
 use super::names::Bases;
 use super::pair::Step;
+use super::survey::display_on;
 use super::{listing, names, numbers, words};
 use mitrophel::reference::{Fence, Gmch, Lsmm, Observer, Rule, TableWord, TABLE_WORDS};
 use mitrophel::trace::REDACTED;
@@ -98,14 +99,16 @@ fn outcome(step: &Step<'_, '_>, hidden: bool, hidden_page: bool) -> (Tone, Strin
         }
         (_, Some(Target::Hub)) => (Tone::Passed, "hub".to_string()),
         (_, Some(Target::Vga)) => (Tone::Passed, format!("VGA offset {:X}h", answer.address)),
-        (_, Some(Target::Memory)) => (Tone::Reached, memory(step, hidden, hidden_page)),
+        (_, Some(Target::Memory)) => (Tone::Reached, memory(step, "memory", hidden, hidden_page)),
+        (_, Some(Target::DisplayCache)) => (Tone::Reached, memory(step, "display cache", hidden, hidden_page)),
         (_, Some(Target::Register)) => (Tone::Reached, register(step, &config_name(step), hidden)),
         (_, Some(Target::MemoryMapped)) => (Tone::Reached, mapped(step, hidden)),
         _ => (Tone::Passed, answer.to_string()),
     }
 }
 
-fn memory(step: &Step<'_, '_>, hidden: bool, hidden_page: bool) -> String {
+/// A place of main memory or of the display cache, with what was read or written.
+fn memory(step: &Step<'_, '_>, name: &str, hidden: bool, hidden_page: bool) -> String {
     let (width, written) = (step.record.width, is_write(step));
     let at = if hidden_page { REDACTED.to_string() } else { format!("{:X}h", step.answer.address) };
     let kept = match width {
@@ -119,7 +122,7 @@ fn memory(step: &Step<'_, '_>, hidden: bool, hidden_page: bool) -> String {
     } else {
         numbers::data(if written { kept } else { step.answer.value }, width)
     };
-    format!("memory {at} {verb} {value}")
+    format!("{name} {at} {verb} {value}")
 }
 
 fn is_write(step: &Step<'_, '_>) -> bool {
@@ -144,7 +147,7 @@ fn config_name(step: &Step<'_, '_>) -> String {
 
 fn mapped(step: &Step<'_, '_>, hidden: bool) -> String {
     let offset = step.answer.address;
-    match names::mapped_at(offset) {
+    match names::listed_at(step.hub.board(), offset) {
         Some((name, _, _)) => register(step, &name, hidden),
         None if is_write(step) => format!("MMIO+{offset:X}h is not listed: ignored"),
         None => format!("MMIO+{offset:X}h is not listed: reads 0"),
@@ -202,7 +205,7 @@ fn refused_in_window(step: &Step<'_, '_>, refusal: Refusal, offset: u32, hidden_
         Refusal::EntryType => format!("entry {entry}{at} has type {}", entry_type(hub, entry, hidden_page)),
         Refusal::PageProtected => format!("page {} of entry {entry}{at} is protected", page()),
         Refusal::PageAboveMemory => {
-            format!("page {} of entry {entry}{at} is at or above the top of memory, {:X}h", page(), hub.tom())
+            format!("page {} of entry {entry}{at} is at or above {}", page(), memory_end(hub, entry, hidden_page))
         }
         _ => refusal.reason().to_string(),
     }
@@ -216,8 +219,8 @@ fn not_exact(step: &Step<'_, '_>) -> String {
     let touched = (0..u32::from(width)).find_map(|byte| names::mapped_at(offset + byte));
     match touched {
         Some((name, at, bytes)) => {
-            let accessed = if width == 1 { "1 byte".to_string() } else { format!("{width} bytes") };
-            format!("{accessed} at offset {offset:X}h, not {name} as it is, {bytes} bytes at {at:X}h")
+            let [accessed, own] = [width, bytes].map(|bytes| numbers::counted(bytes.into(), "byte"));
+            format!("{accessed} at offset {offset:X}h, not {name} as it is, {own} at {at:X}h")
         }
         None => Refusal::NotExactlyRegister.reason().to_string(),
     }
@@ -268,7 +271,7 @@ pub fn bad_entry<O: Observer>(hub: &Gmch<'_, O>, refusal: Refusal, offset: u32, 
         Refusal::EntryType => format!("entry {entry} has type {}", entry_type(hub, entry, hidden)),
         Refusal::PageProtected => format!("entry {entry}'s page {} is protected", page()),
         Refusal::PageAboveMemory => {
-            format!("entry {entry}'s page {} is at or above the top of memory, {:X}h", page(), hub.tom())
+            format!("entry {entry}'s page {} is at or above {}", page(), memory_end(hub, entry, hidden))
         }
         _ => refusal.reason().to_string(),
     }
@@ -301,10 +304,22 @@ fn entry_page<O: Observer>(hub: &Gmch<'_, O>, entry: u32, hidden: bool) -> Strin
 
 /// The type of an entry that is refused for it.
 fn entry_type<O: Observer>(hub: &Gmch<'_, O>, entry: u32, hidden: bool) -> String {
-    unless_hidden(hidden, || match entry_word(hub, entry) >> 1 & 3 {
-        1 => "01, display cache".to_string(),
+    unless_hidden(hidden, || match (words::entry_kind(entry_word(hub, entry)), display_on(hub)) {
+        (0b01, None) => "01, display cache".to_string(),
+        (0b01, Some(on)) => format!("01, display cache, which is {}", words::display(on)),
         _ => "10".to_string(),
     })
+}
+
+/// The end of the memory that an entry's type leads to, where its page is not below that. Which memory it is the word
+/// says, which may be hidden.
+fn memory_end<O: Observer>(hub: &Gmch<'_, O>, entry: u32, hidden: bool) -> String {
+    match (hub.board().display_bytes(), words::entry_kind(entry_word(hub, entry))) {
+        (0, _) => format!("the top of memory, {:X}h", hub.tom()),
+        _ if hidden => "the top of memory or of the display cache".to_string(),
+        (length, 0b01) => format!("the top of the display cache, {length:X}h"),
+        _ => format!("the top of memory, {:X}h", hub.tom()),
+    }
 }
 
 /// Why a word of a table in main memory is refused: request 10 of document 02. `at` says where the access was.
@@ -377,11 +392,15 @@ fn compatible(step: &Step<'_, '_>) -> &'static str {
     }
 }
 
-/// An answered access to an entry says where its word lies in main memory.
+/// An answered access to an entry says where its word lies in main memory, and one to DRT whether the display cache is on.
 fn registers_reason(step: &Step<'_, '_>) -> String {
-    match step.word.filter(|_| step.answer.code == 0) {
-        Some(word) => format!("rule 7: registers, word at {:X}h", word.address),
-        None => "rule 7: registers".to_string(),
+    let answered = step.answer.code == 0;
+    match (step.word, display_on(step.hub)) {
+        (Some(word), _) if answered => format!("rule 7: registers, word at {:X}h", word.address),
+        (None, Some(on)) if answered && step.answer.address == names::DRT => {
+            format!("rule 7: registers, display cache {}", if on { "on" } else { "off" })
+        }
+        _ => "rule 7: registers".to_string(),
     }
 }
 

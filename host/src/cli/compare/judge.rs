@@ -15,8 +15,11 @@ pub fn alike_at_lock(list: &List, scope: &Scope, runs: &[Run; 2]) -> Result<(), 
         Some(_) => "the parser ran over bytes that were not yet protected, or the table was there",
     };
     let register = one.at_lock.difference(&two.at_lock).map(|(name, _)| name);
-    let byte = || others.and_then(|(one, two)| one.difference(two));
-    let Some(name) = register.or_else(|| byte().map(|at| format!("the unprotected byte at {at:X}h"))) else {
+    let byte = || Some(format!("the unprotected byte at {:X}h", others.and_then(|(one, two)| one.difference(two))?));
+    let displays = one.display_at_lock.as_ref().zip(two.display_at_lock.as_ref());
+    let display =
+        || Some(format!("the display cache's byte at {:X}h", displays.and_then(|(one, two)| one.difference(two))?));
+    let Some(name) = register.or_else(byte).or_else(display) else {
         return Ok(());
     };
     Err(Failure::input(format!(
@@ -114,8 +117,10 @@ pub enum Difference {
     Answer(Seen),
     /// A register or a table word.
     Register(String, [u32; 2]),
-    /// An unprotected byte.
+    /// An unprotected byte of main memory.
     Byte(usize, [u32; 2]),
+    /// A byte of the display cache.
+    Display(usize, [u32; 2]),
     /// A protected byte that no management-mode write reached, in one run.
     Unwritten(usize, usize),
     /// Other bytes are protected than at the lock, in one run, after this record.
@@ -133,19 +138,29 @@ pub fn forbidden(scope: &Scope, runs: &[Run; 2]) -> Option<Difference> {
         .map(Difference::Answer)
         .or_else(register)
         .or_else(|| unprotected_byte(scope, one, two))
+        .or_else(|| display_byte(one, two))
         .or_else(|| runs.iter().enumerate().find_map(unwritten))
         .or_else(|| runs.iter().enumerate().find_map(moved))
 }
 
 fn unprotected_byte(scope: &Scope, one: &Run, two: &Run) -> Option<Difference> {
-    let at = scope.protected.difference_outside(&one.memory, &two.memory)?;
-    Some(Difference::Byte(at, [one.memory[at].into(), two.memory[at].into()]))
+    let (one, two) = (&one.lent.memory, &two.lent.memory);
+    let at = scope.protected.difference_outside(one, two)?;
+    Some(Difference::Byte(at, [one[at].into(), two[at].into()]))
+}
+
+/// The display cache counts as unprotected, all of it.
+fn display_byte(one: &Run, two: &Run) -> Option<Difference> {
+    let mut bytes = one.lent.display.iter().zip(&two.lent.display).enumerate();
+    let (at, (&one, &two)) = bytes.find(|(_, (one, two))| one != two)?;
+    Some(Difference::Display(at, [one.into(), two.into()]))
 }
 
 #[cfg(test)]
 mod tests {
     use super::super::runs::{Protected, State};
     use super::*;
+    use crate::cli::load::Lent;
     use crate::cli::names::Bases;
     use mitrophel::reference::Smram;
     use mitrophel::Record;
@@ -187,7 +202,11 @@ mod tests {
                 at_end: state.clone(),
                 kept: vec![0x99; 16],
                 others_at_lock: None,
-                memory: [[0x11; 8], [key, key, key, key, 0x99, 0x99, 0x99, 0x99], [0x22; 8], [0x99; 8]].concat(),
+                display_at_lock: None,
+                lent: Lent {
+                    memory: [[0x11; 8], [key, key, key, key, 0x99, 0x99, 0x99, 0x99], [0x22; 8], [0x99; 8]].concat(),
+                    display: vec![0x33; 32],
+                },
                 moved: None,
             }
         };
@@ -255,9 +274,19 @@ mod tests {
     fn every_unprotected_byte_is_compared() {
         for at in (0..8).chain(16..24) {
             let (scope, mut runs) = alike();
-            let byte = runs[0].memory[at];
-            runs[1].memory[at] = 0xBB;
+            let byte = runs[0].lent.memory[at];
+            runs[1].lent.memory[at] = 0xBB;
             assert_eq!(forbidden(&scope, &runs), Some(Difference::Byte(at, [byte.into(), 0xBB])));
+        }
+    }
+
+    /// At the addresses of protected bytes too.
+    #[test]
+    fn every_byte_of_the_display_cache_is_compared() {
+        for at in 0..32 {
+            let (scope, mut runs) = alike();
+            runs[1].lent.display[at] = 0xBB;
+            assert_eq!(forbidden(&scope, &runs), Some(Difference::Display(at, [0x33, 0xBB])));
         }
     }
 
@@ -265,7 +294,7 @@ mod tests {
     fn a_protected_byte_changes_only_where_a_write_landed() {
         for (run, at) in [0, 1].into_iter().flat_map(|run| (8..16).chain(24..32).map(move |at| (run, at))) {
             let (scope, mut runs) = alike();
-            runs[run].memory[at] ^= 1;
+            runs[run].lent.memory[at] ^= 1;
             let expected = (at >= 12).then_some(Difference::Unwritten(run, at));
             assert_eq!(forbidden(&scope, &runs), expected);
         }

@@ -3,7 +3,7 @@
 use super::Key;
 use crate::cli::blocks::Blocks;
 use crate::cli::failure::Failure;
-use crate::cli::load::{List, Memory};
+use crate::cli::load::{Lent, List, Memory};
 use crate::cli::names::{self, Bases};
 use crate::cli::pair::{Call, Hub, Pair};
 use mitrophel::record;
@@ -20,7 +20,7 @@ pub struct Machine<'a> {
     memory: &'a Memory,
     call: Call,
     /// Memories that were used and are not needed any more.
-    used: RefCell<Vec<Vec<u8>>>,
+    used: RefCell<Vec<Lent>>,
 }
 
 impl<'a> Machine<'a> {
@@ -28,15 +28,15 @@ impl<'a> Machine<'a> {
         Machine { board, memory, call, used: RefCell::default() }
     }
 
-    /// Both on a memory as it is at the start, but for what `put` puts there.
+    /// Both on memories as they are at the start, but for what `put` puts in main memory.
     fn pair(&self, put: impl Fn(&mut [u8])) -> Pair {
-        let memories = [(); 2].map(|()| {
+        let both = [(); 2].map(|()| {
             let used = self.used.borrow_mut().pop();
-            let mut memory = used.map_or_else(|| self.memory.fresh(), |used| self.memory.renewed(used));
-            put(&mut memory);
-            memory
+            let mut lent = used.map_or_else(|| self.memory.fresh(), |used| self.memory.renewed(used));
+            put(&mut lent.memory);
+            lent
         });
-        Pair::by(self.board, memories, self.call).without_values()
+        Pair::by(self.board, both, self.call).without_values()
     }
 }
 
@@ -124,7 +124,7 @@ impl Scope {
                 Ok(())
             })?);
         }
-        machine.used.borrow_mut().extend(pair.into_memories());
+        machine.used.borrow_mut().extend(pair.into_both());
         let refused = |why: &str| Failure::input(format!("{}: {why}", list.name()));
         let lock = "expected a write that sets SMRAM's lock, bit 1, such as 'config write dev0.SMRAM 4Eh', found none";
         let missing = || refused(lock);
@@ -181,9 +181,8 @@ impl State {
             let byte = hub.config_byte(device, at).map(u32::from);
             registers.extend(byte.map(|byte| (names::config_register(device, at as u32, 1).0, byte)));
         }
-        for offset in (0..names::entry_offset(0)).step_by(4) {
-            let named = names::mapped_at(offset).zip(hub.register(offset));
-            registers.extend(named.map(|((name, _, _), value)| (name, value)));
+        for row in names::MAPPED {
+            registers.extend(hub.register(row.at).map(|value| (row.name.to_string(), value)));
         }
         State { registers, table: hub.table().to_vec() }
     }
@@ -211,8 +210,10 @@ pub struct Run {
     /// The other bytes right after the lock, where they may depend on the key: a table in main memory can have lain in
     /// the key's bytes, and its entries decide where others go. Private entries come from the list.
     pub others_at_lock: Option<Blocks>,
-    /// Memory at the end.
-    pub memory: Vec<u8>,
+    /// The display cache then, for the same reason.
+    pub display_at_lock: Option<Blocks>,
+    /// Memory and display cache at the end.
+    pub lent: Lent,
     /// The first record after which other bytes are protected than at the lock.
     pub moved: Option<usize>,
 }
@@ -237,8 +238,8 @@ impl Run {
             })?);
         }
         run.answers = record::decode_answers(&answers).collect();
-        let [memory, beside] = pair.into_memories();
-        run.memory = memory;
+        let [lent, beside] = pair.into_both();
+        run.lent = lent;
         machine.used.borrow_mut().push(beside);
         Ok(run)
     }
@@ -248,13 +249,14 @@ impl Run {
         if index == scope.lock {
             self.at_lock = State::of(hub);
             self.kept = scope.protected.addresses().map(|address| hub.memory()[address]).collect();
-            self.others_at_lock = hub.board().table_in_memory().then(|| {
-                let mut others = Blocks::default();
+            if hub.board().table_in_memory() {
+                let (mut others, mut display) = (Blocks::default(), Blocks::default());
                 for range in scope.protected.others(hub.memory().len()) {
                     others.keep(range.start, &hub.memory()[range]);
                 }
-                others
-            });
+                display.keep(0, hub.display());
+                (self.others_at_lock, self.display_at_lock) = (Some(others), Some(display));
+            }
         }
         if index + 1 == scope.end {
             self.at_end = State::of(hub);
@@ -276,7 +278,7 @@ impl Run {
             }
         }
         let mut bytes = scope.protected.addresses().zip(&self.kept);
-        let changed = bytes.find(|(address, kept)| self.memory[*address] != **kept && !written.contains(address));
+        let changed = bytes.find(|(address, kept)| self.lent.memory[*address] != **kept && !written.contains(address));
         changed.map(|(address, _)| address)
     }
 }

@@ -67,10 +67,10 @@ pub fn chip(board: Board) -> &'static str {
 /// The memory-mapped registers but the table's.
 pub fn mapped(page: &mut Page, hub: &Hub<'_>) {
     page.heading("Memory-mapped registers");
-    for (name, at, bytes) in (0x2000..0x20B0).step_by(4).filter_map(names::mapped_at) {
-        let value = register(hub, at);
+    for &Register { at, bytes, name } in names::MAPPED {
+        let Some(value) = hub.register(at) else { continue };
         let left = format!("{at:X}h  {name:<14}  {:>9}", numbers::data(value, bytes));
-        let words = mapped_words(hub, &name, value);
+        let words = mapped_words(hub, name, value);
         let tone = if words.contains("refused") { Tone::Refused } else { Tone::Reached };
         page.toned(&left, &words, tone);
     }
@@ -104,6 +104,8 @@ fn mapped_words(hub: &Hub<'_>, name: &str, value: u32) -> String {
         "IIR" => bit("pending"),
         "IMR" => bit("masked"),
         "ISR" => "always 0".to_string(),
+        "DRT" if value & 1 != 0 => "display cache on: entries of type 01 reach it".to_string(),
+        "DRT" => "display cache off: entries of type 01 are refused 5".to_string(),
         fence => fence.strip_prefix("FENCE").and_then(|number| fence_words(hub, number)).unwrap_or_default(),
     }
 }

@@ -17,10 +17,10 @@ const LINES: usize = 32;
 #[derive(Clone, Copy, Debug, PartialEq, Eq)]
 enum Fetched {
     Word {
-        address: u32,
+        place: Place,
         word: u32,
     },
-    /// A word that is not for everybody.
+    /// A word of main memory that is not for everybody.
     Hidden {
         address: u32,
     },
@@ -46,13 +46,21 @@ impl Run {
     /// Whether another word, at this offset of the ring, belongs to the run.
     fn takes(&self, offset: u32, next: Fetched) -> bool {
         let alike = match (self.first, next) {
-            (Fetched::Word { address, word }, Fetched::Word { address: at, word: other }) => {
-                word == other && at == address + 4 * self.words
+            (Fetched::Word { place, word }, Fetched::Word { place: at, word: other }) => {
+                word == other && at == further(place, 4 * self.words)
             }
             (Fetched::Hidden { address }, Fetched::Hidden { address: at }) => at == address + 4 * self.words,
             (first, next) => first == next,
         };
         alike && offset == self.offset + 4 * self.words
+    }
+}
+
+/// A place so many bytes further in the same memory.
+fn further(place: Place, bytes: u32) -> Place {
+    match place {
+        Place::Memory(address) => Place::Memory(address + bytes),
+        Place::DisplayCache(address) => Place::DisplayCache(address + bytes),
     }
 }
 
@@ -107,14 +115,18 @@ fn fetch(hub: &Hub<'_>, guarded: &[Range<u32>], offset: u32) -> Fetched {
         Ok(Place::Memory(address)) if guarded.iter().any(|range| range.contains(&address)) => {
             Fetched::Hidden { address }
         }
-        Ok(place) => Fetched::Word { address: place.address(), word: hub.word(place) },
+        Ok(place) => Fetched::Word { place, word: hub.word(place) },
         Err(refusal) => Fetched::Refused { refusal, entry },
     }
 }
 
 fn line(page: &mut Page, hub: &Hub<'_>, run: &Run) {
     let (address, (tone, text)) = match run.first {
-        Fetched::Word { address, word } => (format!("{address:X}h"), instruction(word)),
+        Fetched::Word { place, word } => {
+            let (tone, text) = instruction(word);
+            let from = if matches!(place, Place::DisplayCache(_)) { ", in the display cache" } else { "" };
+            (format!("{:X}h", place.address()), (tone, format!("{text}{from}")))
+        }
         Fetched::Hidden { address } => (format!("{address:X}h"), (Tone::Reached, REDACTED.to_string())),
         Fetched::Unseen => (REDACTED.to_string(), (Tone::Reached, REDACTED.to_string())),
         Fetched::Refused { refusal, .. } => {
