@@ -44,6 +44,8 @@ samples! {
     request_5_word_of_the_table: "request-5-word-of-the-table",
     request_6_one_gibibyte: "request-6-one-gibibyte",
     request_10_table_in_main_memory: "request-10-table-in-main-memory",
+    request_11_display_cache: "request-11-display-cache",
+    request_11_no_display_cache: "request-11-no-display-cache",
     the_desk_of_the_demo: "desk",
 }
 
@@ -168,19 +170,24 @@ fn two_keys_differ_only_in_what_management_mode_writes_and_reads() {
     }
 }
 
-/// Request 10 of document 02: "Add board kinds 2 (82810) and 3 (DC100)". They differ in their ids alone, and kind 0 does
-/// what document 01 says, table and all.
+/// Request 10 of document 02: "Add board kinds 2 (82810) and 3 (DC100)". They differ in their ids, and in the display
+/// cache, which is off here; and kind 0 does what document 01 says, table and all.
 #[test]
 fn the_boards_with_the_table_in_main_memory_differ_in_their_ids() {
     let trace = examples().join("request-10-table-in-main-memory.trace");
     let text = fs::read_to_string(&trace).expect("a trace");
     let check = |board: &str, text: &str| run_with(&["replay", "--check", "--board", board, "-"], text.as_bytes());
-    let dc100 = text.replace("dev0.DID = 7120h", "dev0.DID = 7122h").replace("dev1.DID = 7121h", "dev1.DID = 7123h");
+    let dc100 = [
+        ("dev0.DID = 7120h", "dev0.DID = 7122h"),
+        ("dev1.DID = 7121h", "dev1.DID = 7123h"),
+        ("type 01, display cache (", "type 01, display cache, which is off: DRT bit 0 is 0 ("),
+    ];
+    let dc100 = dc100.iter().fold(text.clone(), |text, (old, new)| text.replace(old, new));
     for (board, text) in [("82810-main", &text), ("dc100-main", &dc100), ("2", &text), ("3", &dc100)] {
         let run = check(board, text);
         assert_eq!((run.status, run.errors.as_str()), (DONE, ""), "{board}: {}", run.text);
     }
-    assert_eq!(check("dc100-main", &text).text.matches("\n+ ").count(), 2);
+    assert_eq!(check("dc100-main", &text).text.matches("\n+ ").count(), 3);
     let private = check("82810", &text);
     assert_eq!((private.status, private.errors.as_str()), (UNMET, ""));
     for part in
@@ -207,6 +214,32 @@ fn one_gibibyte_is_what_the_sample_needs() {
             assert!(run.text.contains(part), "{length}: {part}\n{}", run.text);
         }
     }
+}
+
+/// Request 11 of document 02: what the display cache answers does not depend on the table's home, and the other boards
+/// have none.
+#[test]
+fn a_display_cache_is_the_dc100s_wherever_the_table_is() {
+    let trace = example("request-11-display-cache.trace");
+    let answers = |board: &str| -> Vec<Answer> {
+        let run = run(&["replay", "--board", board, "--answers", "-", &trace]);
+        assert_eq!((run.status, run.errors.as_str()), (DONE, ""), "{board}");
+        record::decode_answers(&run.out).collect()
+    };
+    let reached = |answers: &[Answer]| answers.iter().filter(|answer| answer.target == 6).count();
+    let [private, in_memory] = ["dc100", "dc100-main"].map(answers);
+    assert!(private == in_memory);
+    assert!(reached(&private) > 20);
+    assert_eq!(["82810", "82810-main"].map(|board| reached(&answers(board))), [0, 0]);
+    let other = example("request-11-no-display-cache.trace");
+    let [private, in_memory] = ["82810", "82810-main"].map(|board| {
+        let run = run(&["replay", "--board", board, "--answers", "-", &other]);
+        assert_eq!((run.status, run.errors.as_str()), (DONE, ""), "{board}");
+        run.out
+    });
+    assert!(private == in_memory);
+    let run = run(&["replay", "--board", "dc100", "--check", &other]);
+    assert_eq!((run.status, run.errors.as_str()), (UNMET, ""));
 }
 
 #[test]

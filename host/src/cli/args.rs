@@ -156,14 +156,13 @@ impl Options {
         }
     }
 
-    /// Asks that an option about the display cache, if it is given, is given for a board that has one.
-    pub fn has_display(&self, name: &str, board: Board) -> Result<(), Failure> {
-        if !self.has(name) || board.display_bytes() != 0 {
-            return Ok(());
-        }
-        let with: Vec<&str> =
-            Board::ALL.into_iter().filter(|board| board.display_bytes() != 0).map(Board::name).collect();
-        Err(self.usage(format!("{name}: board {board} has no display cache; {} have one", with.join(" and "))))
+    /// Asks that no option about the display cache is given for a board that has none.
+    pub fn has_display(&self, board: Board) -> Result<(), Failure> {
+        let given = ["--display", "--dump-display"].into_iter().find(|name| self.has(name));
+        let Some(name) = given.filter(|_| board.display_bytes() == 0) else { return Ok(()) };
+        let with = Board::ALL.into_iter().filter(|board| board.display_bytes() != 0).map(Board::name);
+        let with = with.collect::<Vec<_>>().join(" and ");
+        Err(self.usage(format!("{name}: board {board} has no display cache; {with} have one")))
     }
 
     /// Asks that an option's output is none of the files that are read, which it would replace.

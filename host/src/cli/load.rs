@@ -270,7 +270,7 @@ const LENGTHS: &str = "a multiple of 8M from 8M to 1G";
 impl Memory {
     /// `--memory`, `--image` and `--display`.
     pub fn given(options: &Options, board: Board) -> Result<Memory, Failure> {
-        options.has_display("--display", board)?;
+        options.has_display(board)?;
         let (length, image) = main_memory(options)?;
         let display_length = board.display_bytes();
         let display = options.display().map(|source| whole_display(&source, display_length)).transpose()?;

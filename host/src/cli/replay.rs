@@ -60,7 +60,6 @@ fn run_by(words: &[OsString], call: Call) -> Result<Status, Failure> {
     let source = options.source()?;
     let task = Task::given(&options, &source)?;
     let outputs = Outputs::given(&options, &source, !matches!(task, Task::Silent))?;
-    options.has_display("--dump-display", board)?;
     options.one_standard_input()?;
     let memory = Memory::given(&options, board)?;
     let bytes = source.read()?;

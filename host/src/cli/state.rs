@@ -153,7 +153,7 @@ fn reached(mapping: &Mapping, display: Option<bool>) -> (Tone, String) {
     match reach {
         Reach::Reached => (Tone::Reached, name.to_string()),
         Reach::OtherMemory if kind == 0b01 && display == Some(false) => {
-            (Tone::Refused, format!("refused 5: {name}, off"))
+            (Tone::Refused, "refused 5: display cache is off".to_string())
         }
         Reach::OtherMemory => (Tone::Refused, format!("refused 5: {name}")),
         Reach::Protected => (Tone::Refused, format!("refused 6: protected {name}")),

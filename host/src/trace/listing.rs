@@ -228,10 +228,17 @@ fn comment(record: &Record, bases: Bases) -> Option<String> {
     if *record == Record::io_write(names::CONFIG_ADDRESS, 4, record.data) {
         return Some(words::selection(record.data));
     }
-    if record.kind() != Some(Kind::Write) || record.width != 4 {
+    if record.kind() != Some(Kind::Write) {
         return None;
     }
-    match bases.register_offset(record.address)? {
+    let offset = bases.register_offset(record.address)?;
+    if (offset, record.width) == (names::DRT, 1) {
+        return Some(as_written(&format!("display cache {}", if record.data & 1 != 0 { "on" } else { "off" })));
+    }
+    if record.width != 4 {
+        return None;
+    }
+    match offset {
         offset @ 0x2000..=0x201C if offset.is_multiple_of(4) => Some(as_written(&words::fence(Fence(record.data)))),
         offset if names::entry_at(offset).is_some() => Some(as_written(&words::entry(record.data))),
         _ => None,

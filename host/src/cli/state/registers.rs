@@ -104,8 +104,8 @@ fn mapped_words(hub: &Hub<'_>, name: &str, value: u32) -> String {
         "IIR" => bit("pending"),
         "IMR" => bit("masked"),
         "ISR" => "always 0".to_string(),
-        "DRT" if value & 1 != 0 => "display cache on: entries of type 01 reach it".to_string(),
-        "DRT" => "display cache off: entries of type 01 are refused 5".to_string(),
+        "DRT" if value & 1 != 0 => "display cache on: type 01 reaches it".to_string(),
+        "DRT" => "display cache off: type 01 is refused 5".to_string(),
         fence => fence.strip_prefix("FENCE").and_then(|number| fence_words(hub, number)).unwrap_or_default(),
     }
 }
