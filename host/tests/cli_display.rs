@@ -471,8 +471,8 @@ fn compare_asks_that_the_display_caches_are_alike_at_the_lock() {
         "{}",
         read.text
     );
-    // Somewhere else, and after the lock: equal.
-    let list = format!("{DESK}config write dev0.SMRAM 4Eh\nwrite4 WINDOW+2ABCh 7\nread4 WINDOW+2ABCh\n");
+    // Somewhere else, and after the lock: equal. What management mode writes there carries no key.
+    let list = format!("{DESK}config write dev0.SMRAM 4Eh\nsmm write4 WINDOW+2ABCh 7\nread4 WINDOW+2ABCh\n");
     for board in WITH {
         let run = compare(board, &list);
         assert_eq!((run.status, run.errors.as_str()), (DONE, ""));

@@ -398,6 +398,28 @@ mod tests {
         }
     }
 
+    /// Request 11 of document 02: "Demand 3 counts this memory as unprotected".
+    #[test]
+    fn a_display_cache_that_differs_is_forbidden() {
+        let memory = Memory::zeros(Board::Dc100, 8 << 20);
+        let list = List::text(&Source::File("leak.trace".into()), LEAK.as_bytes()).expect("a trace");
+        let machine = Machine::new(Board::Dc100, &memory, gmch_replay);
+        let scope = Scope::of(&machine, &list).expect("it locks");
+        let keys = keys();
+        let mut runs = keys.each_ref().map(|key| Run::of(&machine, &list, &scope, key).expect("the two agree"));
+        // At the key's own address in main memory.
+        runs[1].lent.display[0xA_0000] = 0x4F;
+        for (secrets, values) in [(Secrets::Hidden, ""), (Secrets::Shown, ": 0h and 4Fh")] {
+            let style = Style { colour: false };
+            let report =
+                Report { board: Board::Dc100, list: &list, scope: &scope, runs: &runs, keys: &keys, secrets, style };
+            let failure = report.tell(&mut Vec::new()).expect_err("the two differ");
+            assert_eq!(failure.status, Status::Unmet);
+            let expected = format!("{LOUD}: the display cache's byte at A0000h differs at the end{values}\n");
+            assert!(failure.message.starts_with(&expected), "{}", failure.message);
+        }
+    }
+
     #[test]
     fn registers_are_named() {
         let memory = Memory::zeros(Board::I82810, 8 << 20);
@@ -412,5 +434,10 @@ mod tests {
         assert_eq!(value("IMR"), Some(0xFFFF));
         assert_eq!(state.registers.len(), 1 + 2 * 256 + 17);
         assert_eq!(state.table[10], 0xA_0001);
+        let memory = Memory::zeros(Board::Dc100, 8 << 20);
+        let machine = Machine::new(Board::Dc100, &memory, gmch_replay);
+        let state = Run::of(&machine, &list, &scope, &keys()[0]).expect("the two agree").at_end;
+        let last = state.registers.iter().skip(1 + 2 * 256 + 17).map(|(name, value)| (name.as_str(), *value));
+        assert_eq!(last.collect::<Vec<_>>(), [("DRT", 0), ("DRAMCL", 0x17), ("DRAMCH", 8)]);
     }
 }

@@ -111,6 +111,7 @@ mod tests {
     fn an_offset_is_that_of_a_refusal_in_the_window() {
         let words = include_str!("../../../examples/request-5-word-of-the-table.trace");
         let codes = include_str!("../../../examples/request-5-where-it-was-refused.trace");
+        let display = include_str!("../../../examples/request-11-display-cache.trace");
         // The first entry's register and the window's first byte: both are refused with address 0.
         let first = "write PGTBL_CTL A0001h\nread GTT[0]\nread4 WINDOW+0\nread1 WINDOW+1\n";
         let mut seen = [0; 2];
@@ -119,6 +120,8 @@ mod tests {
             (Board::Dc100Main, codes.to_string()),
             (Board::I82810Main, format!("{words}{first}")),
             (Board::I82810, format!("{words}{first}")),
+            (Board::Dc100, display.to_string()),
+            (Board::Dc100Main, display.to_string()),
         ] {
             let records = trace::assemble(&text).expect("a trace").records;
             let memory = Memory::zeros(board, 8 << 20);

@@ -363,6 +363,8 @@ pub mod wrong {
         translating: LookupReadsProtectedWords,
         /// Reads a table word in protected memory by its register.
         reading: RegisterReadsProtectedWords,
+        /// Reads main memory where an entry leads into the display cache.
+        confusing: DisplayReadFromMemory,
     }
 }
 
@@ -381,6 +383,13 @@ mod tests {
     fn scribbling(board: u32, memory: &mut [u8], records: &[u8], answers: &mut [u8], display: &mut [u8]) -> u32 {
         let result = gmch_replay(board, memory, records, answers, display);
         memory[0x1234] ^= 1;
+        result
+    }
+
+    /// The same with a byte of the display cache.
+    fn painting(board: u32, memory: &mut [u8], records: &[u8], answers: &mut [u8], display: &mut [u8]) -> u32 {
+        let result = gmch_replay(board, memory, records, answers, display);
+        display[0xA_0000] ^= 1;
         result
     }
 
@@ -434,6 +443,39 @@ mod tests {
             .replay(&[], |_| Ok(()))
             .expect_err("a refusing call");
         assert_eq!(failure.status, Status::Disagreement);
+    }
+
+    #[test]
+    fn a_different_byte_of_the_display_cache_is_told_loudly() {
+        for board in [Board::Dc100, Board::Dc100Main] {
+            let failure =
+                Pair::by(board, memory(board), painting).replay(&[], |_| Ok(())).expect_err("a painting call");
+            assert_eq!(failure.status, Status::Disagreement);
+            let part = "DISAGREE about the display cache: byte A0000h differs\n";
+            assert!(failure.message.contains(part), "{}", failure.message);
+        }
+    }
+
+    /// The key at A0ABCh of main memory, read by an entry of the display cache's page A0000h.
+    #[test]
+    fn a_key_that_the_call_takes_for_the_display_cache_is_not_shown() {
+        let list =
+            "config write dev0.SMRAM 4Ch\nconfig write dev1.GMADR C0000000h\nconfig write dev1.MMADR F0000000h\n\
+                    config write dev1.PCICMD 2\nwrite PGTBL_CTL 300001h\nwrite DRT 1\nwrite GTT[0] A0003h\n\
+                    read4 WINDOW+ABCh\n";
+        let records = trace::assemble(list).expect("a trace").records;
+        for board in [Board::Dc100, Board::Dc100Main] {
+            let lent = memory(board).map(|mut lent| {
+                lent.memory[0xA_0000..0xA_1000].fill(0x5A);
+                lent
+            });
+            let failure =
+                Pair::by(board, lent, wrong::confusing).replay(&records, |_| Ok(())).expect_err("a leaking call");
+            assert_eq!(failure.status, Status::Disagreement);
+            let message = failure.message;
+            assert!(message.contains("DISAGREE at record 12 of the call: read4 WINDOW+ABCh\n"), "{message}");
+            assert!(message.contains("shown as 0") && !message.contains("5A"), "{message}");
+        }
     }
 
     #[test]
