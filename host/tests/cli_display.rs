@@ -535,7 +535,14 @@ fn help_manual_page_and_explanations_have_the_display_cache() {
         ("1", &["display cache not of 4 MiB for kinds 1 and 3, or not of length 0 for the others"][..]),
         ("5", &["entry's type is 10, or 01 where no display cache is on", "DRT (3000h) bit 0 is 0", "--board dc100 "]),
         ("6", &["The display cache, which entries of type 01 name pages of, is never protected."]),
-        ("7", &["or its page that of the display cache", "at or above 4 MiB none is there", "--board dc100 "]),
+        (
+            "7",
+            &[
+                "or its page that of the display cache",
+                "names a page at or above 4 MiB, where that ends.",
+                "--board dc100 ",
+            ],
+        ),
         ("10", &["3000h, 3001h and 3002h, which are listed on boards dc100 and dc100-main only, 1;", "--board dc100 "]),
     ] {
         let told = joined(&run(&["explain", code]).text);

@@ -139,10 +139,10 @@ const CODES: [Code; 13] = [
     Code {
         refusal: Refusal::PageAboveMemory,
         when: "The table entry names a page at or above the top of memory, which is memory's length; none can with 1 \
-               GiB. An entry of type 01 names a page of the display cache (boards dc100 and dc100-main), and at or above \
-               4 MiB none is there. Where the table is in main memory (boards 82810-main and dc100-main), also: the entry's own word, \
-               at PGTBL_CTL's bits 31:12 + 4 x entry, a sum that does not wrap at 32 bits, lies there. An access to \
-               the entry's register is then refused, too.",
+               GiB. Or it has type 01, on boards dc100 and dc100-main with the display cache on, and names a page at or \
+               above 4 MiB, where that ends. Where the table is in main memory (boards 82810-main and dc100-main), \
+               also: the entry's own word, at PGTBL_CTL's bits 31:12 + 4 x entry, a sum that does not wrap at 32 bits, \
+               lies at or above the top of memory. An access to the entry's register is then refused, too.",
         examples: &[
             example(DESK, "write PGTBL_CTL 1\nentry 1 800000h  # memory is 8M\nread4 WINDOW+1000h\n"),
             in_memory(DESK, "write PGTBL_CTL 800001h  # memory is 8M\nread GTT[1]  # the word at 800004h\n"),
@@ -295,7 +295,9 @@ impl Code {
     fn answer(&self) -> String {
         let in_run = ORDERS.iter().any(|(way, order)| *way == PARSER && order.contains(&self.refusal.code()));
         match self.refusal {
-            Refusal::Arguments => "None: the call gives 1 and touches neither memory nor answers.".to_string(),
+            Refusal::Arguments => {
+                "None: the call gives 1 and touches neither memory, nor display cache, nor answers.".to_string()
+            }
             refusal if names::holds_offset(refusal) => self.answer_in_window(in_run),
             refusal if refusal == Refusal::Layout || !in_run => {
                 format!("The code and the interrupt line, all else zero. {UNCHANGED}")
