@@ -41,6 +41,26 @@ const WORDS: [(&str, &str); 2] = [
     ("write PGTBL_CTL A0001h\n", "refused 6: word 18 of the table (window offset 12ABCh), at A0048h, is protected"),
 ];
 
+/// The same on boards with a display cache, of an entry of type 01: request 11 of document 02.
+const DISPLAY: [(&str, &str); 2] = [
+    (
+        "write GTT[18] 100003h\n",
+        "refused 5: entry 18 (window offset 12ABCh) has type 01, display cache, which is off: DRT bit 0 is 0",
+    ),
+    (
+        "write DRT 1\nwrite GTT[18] 400003h\n",
+        "refused 7: page 400000h of entry 18 (window offset 12ABCh) is at or above the top of the display cache, 400000h",
+    ),
+];
+
+/// All that is refused on a board.
+fn refused(board: &str) -> Vec<(&'static str, &'static str)> {
+    let words = if board.ends_with("main") { &WORDS[..] } else { &[] };
+    let display = if board.starts_with("dc100") { &DISPLAY[..] } else { &[] };
+    let other = |own: &&(&str, &str)| !display.iter().any(|(setup, _)| *setup == own.0);
+    REFUSED.iter().filter(other).chain(words).chain(display).copied().collect()
+}
+
 fn replay(board: &str, options: &[&str], trace: &str) -> Run {
     let run = run_with(&[&["replay", "--board", board], options, &["-"]].concat(), trace.as_bytes());
     assert_eq!(run.errors, "");
@@ -66,8 +86,7 @@ fn each_code_is_told_with_its_window_offset() {
     for board in ["82810", "dc100", "82810-main", "dc100-main"] {
         // A table of zeros, wherever it is.
         let desk = DESK.replace("PGTBL_CTL 1", "PGTBL_CTL 200001h");
-        let words = if board.ends_with("main") { &WORDS[..] } else { &[] };
-        for (setup, outcome) in REFUSED.iter().chain(words) {
+        for (setup, outcome) in refused(board) {
             for access in accesses {
                 for end in ["", " (rule 8: the window)"] {
                     // Code 4 has the entry's word with its reason.
@@ -87,10 +106,9 @@ fn each_code_is_told_with_its_window_offset() {
 /// "the offset before fencing for 9, after fencing for the others": what the outcome does not say is in the reason.
 #[test]
 fn a_fence_that_moved_the_offset_is_in_the_reason() {
-    for board in ["82810", "82810-main"] {
+    for board in ["82810", "82810-main", "dc100", "dc100-main"] {
         let desk = DESK.replace("PGTBL_CTL 1", "PGTBL_CTL 200001h") + FENCE;
-        let words = if board.ends_with("main") { &WORDS[..] } else { &[] };
-        for (setup, outcome) in REFUSED.iter().chain(words) {
+        for (setup, outcome) in refused(board) {
             let word = if outcome.starts_with("refused 4") { ", the entry is 00000000h" } else { "" };
             let expected = format!("{outcome} (rule 8: window offset 152BCh before fence 0{word})");
             let run = check(board, &format!("{desk}{setup}smm write4 WINDOW+152BCh 7 #> {expected}\n"));
@@ -393,9 +411,12 @@ fn the_manual_page_has_the_words_of_each_refusal() {
         printed += &replay("82810", &["--only", "refused"], &format!("{DESK}{setup}read4 WINDOW+12ABCh\n")).text;
     }
     printed += &replay("2", &["--only", "refused"], &format!("{DESK}{}read4 WINDOW+12ABCh\n", WORDS[0].0)).text;
+    for (setup, _) in DISPLAY {
+        printed += &replay("1", &["--only", "refused"], &format!("{DESK}{setup}read4 WINDOW+12ABCh\n")).text;
+    }
     let refused: Vec<String> =
         section.lines().filter(|line| line.starts_with("refused ")).map(|line| line.replace("\\-", "-")).collect();
-    assert_eq!(refused.len(), 7);
+    assert_eq!(refused.len(), 9);
     for line in refused {
         assert!(printed.contains(&format!(" {line} (rule 8: the window")), "{line}\n{printed}");
     }
