@@ -395,6 +395,11 @@ fn the_display_cache_is_not_taken_for_protected_memory() {
         }
         assert!(!told.contains("4B455921"), "{told}");
     }
+    // But what was meant for A0000h, by the HSEG's addresses, is the key's, though a window there has led to the cache.
+    let high = DESK.replace("C0000000h", "FC000000h");
+    let key = format!("{high}write GTT[11936] A0003h\nsmm write4 FEEA0ABCh 4B455921h\n");
+    let told = said(&["replay", "--board=dc100"], &key);
+    assert!(told.contains("display cache A0ABCh takes \u{B7}\u{B7}") && !told.contains("4B455921"), "{told}");
     let records = run_with(&["asm", "-"], trace.as_bytes()).out;
     let listing = run_with(&["disasm", "-"], &records).text;
     for line in ["smm write4 A0ABCh \u{B7}\u{B7}", "smm write4 WINDOW+2ABCh 600D0001h"] {

@@ -26,8 +26,6 @@ pub struct Heard {
     protected: bool,
     /// The last place in main memory that it read or wrote, unless the display cache came after it.
     last: Option<u32>,
-    /// It read or wrote the display cache.
-    display: bool,
     /// The last word of a table in main memory that it asked for.
     word: Option<TableWord>,
 }
@@ -45,7 +43,6 @@ impl Observer for Heard {
     /// An address of the display cache is none of main memory.
     fn display_touched(&mut self, _: Touch) {
         self.last = None;
-        self.display = true;
     }
 
     fn table_word(&mut self, word: TableWord) {
@@ -239,13 +236,12 @@ impl Guard<'_, '_> {
     }
 
     /// Whether a record's value is of such memory. A write that is refused has a value too, one of management mode
-    /// that went elsewhere was meant for it, and the word that the parser does not know is shown. What went to the
-    /// display cache, which is never protected, is shown.
+    /// that went elsewhere, be it to the display cache, was meant for it, and the word that the parser does not know is
+    /// shown.
     fn hides_value(&self, record: &Record, answer: &Answer, heard: &Heard, bases: Bases) -> bool {
-        let nowhere = heard.last.is_none() && !heard.display;
         match record.kind() {
             Some(Kind::Run) if answer.refusal() != Some(Refusal::UnknownInstruction) => heard.protected,
-            Some(kind) if kind.is_write() && (answer.code != 0 || record.is_management() && nowhere) => {
+            Some(kind) if kind.is_write() && (answer.code != 0 || record.is_management() && heard.last.is_none()) => {
                 self.has_what_is_meant(record, bases)
             }
             // It may have read a table word, which is not its value.
