@@ -16,7 +16,6 @@ use Rattle.words.specs.Width.{Width}
 use Rattle.gmch.specs.Ring.{withHead}
 use Rattle.gmch.specs.declared.State.{State}
 use Rattle.gmch.specs.declared.Regs.{Regs}
-use Rattle.gmch.specs.declared.Dram.{Dram}
 use Rattle.gmch.specs.declared.Target.{Target}
 use Rattle.gmch.specs.declared.Target.the-variants.{Refused, Memory, Cache, Register, Hub, HubError, Vga, Mapped, Entry, CacheRegister}
 use Rattle.gmch.specs.declared.Route.{Route}
@@ -54,7 +53,7 @@ abbrev pub carried : State → List ℕ → List ℕ → List ℕ → Decided �
 carried s table main cache d = record { after = machine (applied s (d .effect)) table main cache; answer = d .answer }
 
 -- a state by the parts that a decision goes by, and whether 2Ch and 2Eh have been written, which it does not look at
-abbrev pub stateOf : ℕ → List ℕ → List ℕ → List ℕ → Regs → Dram → Bool → Bool → State
+abbrev pub stateOf : ℕ → List ℕ → List ℕ → List ℕ → Regs → List ℕ → Bool → Bool → State
 stateOf cf8 dev0 dev1 fences regs dram c e = record { cf8 = cf8; dev0 = dev0; dev1 = dev1; wrote2c = c; wrote2e = e; fences = fences; regs = regs; dram = dram }
 
 -- ---- the bytes that are taken are there

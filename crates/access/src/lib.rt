@@ -3,7 +3,6 @@
 use gmch::Access;
 use gmch::Answer;
 use gmch::Board;
-use gmch::Dram;
 use gmch::Map;
 use gmch::Place;
 use gmch::Reach;
@@ -13,7 +12,7 @@ use gmch::Target;
 ghost use mathlib.Core.Path.{_≡_};
 ghost use mathlib.Core.Bool.{true};
 ghost use Prim.Native.Nat.{_+_, _≤_};
-ghost use lib.ListN.{length};
+ghost use lib.ListN.{length, getD};
 ghost use Rattle.gmch.specs.Choice.{pick};
 ghost use Rattle.gmch.specs.Words.{loadLe, storeLe};
 ghost use Rattle.gmch.specs.Records.{reply};
@@ -56,8 +55,8 @@ pub struct Decided {
 }
 
 // What the map goes by, read off the devices' bytes and 3000h.
-pub fn map_of<'a>(b: Board, dev0: &'a [u8; 256], dev1: &'a [u8; 256], drt: u32) -> Map
-    ensures { λ r. ⌜ r ≡ mapIn b (now (dev0 .entry)) (now (dev1 .entry)) drt ⌝ }
+pub fn map_of<'a>(b: Board, dev0: &'a [u8; 256], dev1: &'a [u8; 256], dram: &'a [u32; 3]) -> Map
+    ensures { λ r. ⌜ r ≡ mapIn b (now (dev0 .entry)) (now (dev1 .entry)) (getD (now (dram .entry)) 0 0) ⌝ }
 {
     map::map_from(
         b,
@@ -67,7 +66,7 @@ pub fn map_of<'a>(b: Board, dev0: &'a [u8; 256], dev1: &'a [u8; 256], drt: u32) 
         dev1[0x13],
         dev1[0x16],
         dev1[0x17],
-        drt,
+        dram[0],
     )
 }
 
@@ -217,7 +216,7 @@ pub fn act<'a>(
     dev1: &'a [u8; 256],
     fences: &'a [u32; 8],
     regs: Regs,
-    dram: Dram,
+    dram: &'a [u32; 3],
     table: &mut [u32],
     memory: &mut [u8],
     display: &mut [u8],
@@ -226,7 +225,7 @@ pub fn act<'a>(
     t: Target,
 ) -> Decided
     requires { ⌜ (length (now table) ≡ 16384) × Reachable (length (now memory)) (length (now display)) (a .width) t ⌝ }
-    ensures { λ d. ⌜ Decides (stateOf cf8 (now (dev0 .entry)) (now (dev1 .entry)) (now (fences .entry)) regs dram) (now (table .exit)) (now (memory .exit)) (now (display .exit)) d (λ s. act (machine s (now (table .entry)) (now (memory .entry)) (now (display .entry))) a v t) ⌝ }
+    ensures { λ d. ⌜ Decides (stateOf cf8 (now (dev0 .entry)) (now (dev1 .entry)) (now (fences .entry)) regs (now (dram .entry))) (now (table .exit)) (now (memory .exit)) (now (display .exit)) d (λ s. act (machine s (now (table .entry)) (now (memory .entry)) (now (display .entry))) a v t) ⌝ }
 {
     let write = a.write;
     let width = a.width;
@@ -265,7 +264,8 @@ pub fn act<'a>(
             if write {
                 return done(t, 0, Effect::Rarely(Rare::StoreCache(o, v)));
             }
-            let x = mapped::dram_value(dram, o);
+            let all = *dram;
+            let x = mapped::dram_value(all, o);
             done(t, x, Effect::Keep)
         }
     }

@@ -1,5 +1,4 @@
 // Configuration space of document 01: cold start, the ports, reads and writes of registers.
-use gmch::Dram;
 use gmch::Regs;
 use gmch::State;
 use gmch::Target;
@@ -13,21 +12,16 @@ ghost use Rattle.gmch.specs.Replay.{coldDram, coldStart};
 pub mod access;
 
 // The display cache's registers at a cold start. A board without one has none of them.
-fn cold_dram(board: u32) -> Dram
+fn cold_dram(board: u32) -> [u32; 3]
     ensures { λ r. ⌜ r ≡ coldDram board ⌝ }
 {
+    let mut dram = [0u32; 3];
     if board % 2 == 1 {
-        return Dram {
-            drt: 0,
-            dramcl: 0x17,
-            dramch: 0x08,
-        };
+        dram[1] = 0x17;
+        dram[2] = 0x08;
+        return dram;
     }
-    Dram {
-        drt: 0,
-        dramcl: 0,
-        dramch: 0,
-    }
+    dram
 }
 
 // The state at a cold start.

@@ -1,10 +1,12 @@
--- An entry at an offset by the code that refuses it, as the code finds it.
+-- An entry at an offset as the code finds it: by the code that refuses it, or in main memory alone.
 use Prim.Native.Nat.{ℕ, _+_, _%_}
 use mathlib.Core.Path.{_≡_}
 use lib.Dec.{eqb}
 use Rattle.gmch.specs.Choice.{pick}
 use Rattle.gmch.specs.Table.{pageOf, foreign, entryReach}
 use Rattle.gmch.specs.declared.Map.{Map}
+use Rattle.gmch.specs.declared.Reach.{Reach}
+use Rattle.gmch.specs.declared.Reach.the-variants.{At, Denied}
 use Rattle.gmch.specs.declared.Place.{Place}
 use Rattle.gmch.specs.declared.Place.the-variants.{InMain, InCache, NoPlace}
 
@@ -18,3 +20,8 @@ placed entry code o =
 -- the code is the one that refuses the entry, at every offset
 abbrev pub Refuses : Map → ℕ → ℕ → Type 0
 Refuses m entry code = (o : ℕ) → placed entry code o ≡ entryReach m entry o
+
+-- where no entry reaches the display cache, a place is an address in main memory or a refusal
+abbrev pub inMain : Reach → Place
+inMain (At p) = InMain p
+inMain (Denied c o) = NoPlace c o

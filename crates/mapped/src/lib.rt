@@ -1,5 +1,4 @@
 // The memory-mapped registers: the accesses that fit them, their values, what writes leave, and the interrupt line.
-use gmch::Dram;
 use gmch::Regs;
 use gmch::State;
 use words::within;
@@ -190,32 +189,32 @@ pub fn table_written(table: &mut [u32], o: u32, v: u32)
 // ---- the display cache's registers
 
 // What the register at `o` reads.
-pub fn dram_value(d: Dram, o: u32) -> u32
-    ensures { λ v. ⌜ v ≡ dramValue d o ⌝ }
+pub fn dram_value(dram: [u32; 3], o: u32) -> u32
+    ensures { λ v. ⌜ v ≡ dramValue dram o ⌝ }
 {
     match o {
-        0x3000 => d.drt, // DRT
-        0x3001 => d.dramcl, // DRAMCL
-        _ => d.dramch, // DRAMCH
+        0x3000 => dram[0], // DRT
+        0x3001 => dram[1], // DRAMCL
+        _ => dram[2], // DRAMCH
     }
 }
 
 // The registers after `v` is written at `o`.
-pub fn dram_written(d: Dram, o: u32, v: u32) -> Dram
-    ensures { λ q. ⌜ q ≡ dramWritten d o v ⌝ }
+pub fn dram_written(dram: [u32; 3], o: u32, v: u32) -> [u32; 3]
+    ensures { λ q. ⌜ q ≡ dramWritten dram o v ⌝ }
 {
-    let mut q = d;
+    let mut q = dram;
     match o {
         0x3000 => { // DRT: bit 0
-            q.drt = v % 2;
+            q[0] = v % 2;
             return q;
         }
         0x3001 => { // DRAMCL
-            q.dramcl = v % 256;
+            q[1] = v % 256;
             return q;
         }
         0x3002 => { // DRAMCH
-            q.dramch = v % 256;
+            q[2] = v % 256;
             return q;
         }
         _ => {

@@ -6,7 +6,6 @@ use access::Effect;
 use access::Rare;
 use gmch::Answer;
 use gmch::Board;
-use gmch::Dram;
 use gmch::Map;
 use gmch::Ran;
 use gmch::Record;
@@ -15,7 +14,7 @@ use gmch::State;
 use gmch::Target;
 ghost use mathlib.Core.Path.{_≡_};
 ghost use Prim.Native.Nat.{_%_};
-ghost use lib.ListN.{length};
+ghost use lib.ListN.{length, getD};
 ghost use Rattle.gmch.specs.Smram.{smramError};
 ghost use Rattle.gmch.specs.Machine.{cacheLength, machine};
 ghost use Rattle.gmch.specs.Map.{Tom, Sized, Cached, mapIn};
@@ -89,14 +88,14 @@ pub fn decide<'a>(
     dev1: &'a [u8; 256],
     fences: &'a [u32; 8],
     regs: Regs,
-    dram: Dram,
+    dram: &'a [u32; 3],
     table: &mut [u32],
     memory: &mut [u8],
     display: &mut [u8],
     r: Record,
 ) -> Decided
-    requires { ⌜ (m ≡ mapIn b (now dev0) (now dev1) (dram .drt)) × Sized m (now table) (now memory) × Cached m (now display) ⌝ }
-    ensures { λ d. ⌜ Decides (stateOf cf8 (now (dev0 .entry)) (now (dev1 .entry)) (now (fences .entry)) regs dram) (now (table .exit)) (now (memory .exit)) (now (display .exit)) d (λ s. oneRecord b (machine s (now (table .entry)) (now (memory .entry)) (now (display .entry))) r) ⌝ }
+    requires { ⌜ (m ≡ mapIn b (now dev0) (now dev1) (getD (now dram) 0 0)) × Sized m (now table) (now memory) × Cached m (now display) ⌝ }
+    ensures { λ d. ⌜ Decides (stateOf cf8 (now (dev0 .entry)) (now (dev1 .entry)) (now (fences .entry)) regs (now (dram .entry))) (now (table .exit)) (now (memory .exit)) (now (display .exit)) d (λ s. oneRecord b (machine s (now (table .entry)) (now (memory .entry)) (now (display .entry))) r) ⌝ }
 {
     if !records::well_formed(r) {
         return access::done(Target::Refused(13, 0), 0, Effect::Keep);
@@ -151,13 +150,12 @@ pub fn replay(
     let n = records.len() / 16;
     let mut s = start;
     // Read off the state once, and again after each effect that may change it.
-    let mut m = access::map_of(b, &s.dev0, &s.dev1, s.dram.drt);
+    let mut m = access::map_of(b, &s.dev0, &s.dev1, &s.dram);
     let mut i = 0;
     while i < n {
         let at = 16 * i;
         let r = records::record_at(records, at);
         let regs = s.regs;
-        let dram = s.dram;
         let d = decide(
             b,
             m,
@@ -166,7 +164,7 @@ pub fn replay(
             &s.dev1,
             &s.fences,
             regs,
-            dram,
+            &s.dram,
             table,
             memory,
             display,
@@ -194,11 +192,11 @@ pub fn replay(
                 }
                 s.wrote2c = s.wrote2c | wrote2c;
                 s.wrote2e = s.wrote2e | wrote2e;
-                m = access::map_of(b, &s.dev0, &s.dev1, s.dram.drt);
+                m = access::map_of(b, &s.dev0, &s.dev1, &s.dram);
             }
             Effect::Rarely(x) => {
                 s = apply(s, x);
-                m = access::map_of(b, &s.dev0, &s.dev1, s.dram.drt);
+                m = access::map_of(b, &s.dev0, &s.dev1, &s.dram);
             }
         }
         records::put_answer(answers, at, d.answer, mapped::line(s.regs));

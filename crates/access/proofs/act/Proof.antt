@@ -54,7 +54,7 @@ returns-11 c =
 returns-12 : tie.Need-returns-12
 unfolding act applied pick
 returns-12 c =
-    rw (c .done12 .ensures, c .before .before .before .before .t6 .given .1, c .before .before .if2 .left, c .before .dram-value .ensures)
+    rw (c .done12 .ensures, c .before .before .before .before .before .t6 .given .1, c .before .before .before .if2 .left, c .before .dram-value .ensures)
     (λ p q. refl, tt)
 
 pub act-spec : {M : Type 1} → statement M

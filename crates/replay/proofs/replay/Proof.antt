@@ -26,20 +26,20 @@ abbrev μ-loop : tie.MeasureT-loop
 
 loop-holds : tie.Need-loop-holds Inv-loop μ-loop
 loop-holds c =
-    let z = c .before .before .before .before .before .before .before .before .before .pre in
+    let z = c .before .before .before .before .before .before .before .before .before .before .pre in
     (omega arith, refl, z .1, z .2, z .4, c .map-of .ensures, z .5, rw sub-zero refl)
 
 decide-requires : tie.Need-decide-requires Inv-loop μ-loop
 decide-requires c κs =
     let l = c .before .before .before .before .before .before .before .before .before .before .before .loop in
     let h = l .inv in
-    ready _ (l .s) (l .table) (l .memory) (l .display) _ (h .5) (c .before .before .before .before .before .before .before .before .before .before .before .before .before .before .before .before .before .before .before .before .before .pre .0) (h .2) (h .3) (h .6)
+    ready _ (l .s) (l .table) (l .memory) (l .display) _ (h .5) (c .before .before .before .before .before .before .before .before .before .before .before .before .before .before .before .before .before .before .before .before .before .before .pre .0) (h .2) (h .3) (h .6)
 
 add-i : tie.Need-add-i Inv-loop μ-loop
 add-i c =
     let t = c .before .before .before .before .before .before .before .before .before .before .before .before .before .before .before .before .before .before .before .before .before .before .before .before .loop-test in
-    let g = c .before .before .before .before .before .before .before .before .before .before .before .before .before .before .before .before .before .before .before .before .before .before .before .before .before .before .before .before .before .before .before .before .before .before .before .good in
-    let s = c .before .before .before .before .before .before .before .before .before .before .before .before .before .before .before .before .before .before .before .before .before .before .before .before .before .before .before .before .before .before .before .before .shared-slice-known in
+    let g = c .before .before .before .before .before .before .before .before .before .before .before .before .before .before .before .before .before .before .before .before .before .before .before .before .before .before .before .before .before .before .before .before .before .before .before .before .good in
+    let s = c .before .before .before .before .before .before .before .before .before .before .before .before .before .before .before .before .before .before .before .before .before .before .before .before .before .before .before .before .before .before .before .before .before .shared-slice-known in
     omega arith
 
 loop-again : tie.Need-loop-again Inv-loop μ-loop
@@ -56,12 +56,12 @@ loop-again c =
     ⊎-elim (λ w.
     let e = w .1 .given .1 in
     let u = rw e at (d .ensures .1) in
-    next _ _ _ (w .13) (w .14)
+    next _ _ _ (w .14) (w .15)
     (⊎-elim
     (λ v. rw (v .3) (stored-0 _ _ _ _ (u .1) _ (w .5 .ensures) _ _ _ _ (w .4 .ensures) (w .6 .ensures) (w .7 .ensures) (v .0 .taken) (v .2 .ensures)))
     (λ v. rw (v .3) (stored-1 _ _ _ _ (u .1) _ (w .5 .ensures) _ _ _ _ (w .4 .ensures) (w .6 .ensures) (w .7 .ensures) (v .0 .left) (u .0) (v .2 .ensures)))
-    (w .8 .came) ∙ configure-is _ _ _ _ _ e) (w .12 .ensures)) (λ w.
-    next _ _ _ (w .8) (w .9) (w .3 .ensures ∙ rare-is _ _ _ (w .1 .given .1)) (w .7 .ensures)) k) k) k) (m .came) in
+    (w .8 .came) ∙ configure-is _ _ _ _ _ e) (w .13 .ensures)) (λ w.
+    next _ _ _ (w .9) (w .10) (w .3 .ensures ∙ rare-is _ _ _ (w .1 .given .1)) (w .8 .ensures)) k) k) k) (m .came) in
     let t = c .before .before .before .before .before .before .before .before .before .before .before .before .before .before .before .before .before .before .before .before .before .before .before .before .loop-test in (
       omega arith,
       h .1,
@@ -76,7 +76,7 @@ loop-again c =
 returns : tie.Need-returns Inv-loop μ-loop
 returns c =
     let h = c .before .loop .inv in
-    let q = c .before .before .before .before .before .before .before .before .before .before .before .pre in
+    let q = c .before .before .before .before .before .before .before .before .before .before .before .before .pre in
     finished _ _ _ _ _ _ _ _ (h .1) (omega arith) (omega arith) (h .7)
 
 pub replay-spec : {M : Type 1} → statement M
