@@ -12,7 +12,7 @@ use Rattle.gmch.specs.Words.{within, loadLe, storeLe}
 use Rattle.gmch.specs.Records.{reply}
 use Rattle.gmch.specs.Config.{Placed, registerWritten}
 use Rattle.gmch.specs.Machine.{Machine, machine, withMain, withCache}
-use Rattle.gmch.specs.Mapped.{isEntry, isFence, mappedValue, regsWritten, mappedWritten, stored, tableWritten}
+use Rattle.gmch.specs.Mapped.{listedByte, isEntry, isFence, mappedValue, regsWritten, mappedWritten, stored, tableWritten}
 use Rattle.gmch.specs.Access.{Out, done, act}
 use Rattle.gmch.specs.declared.State.{State}
 use Rattle.gmch.specs.declared.Access.{Access}
@@ -27,6 +27,13 @@ abbrev pub out : State → List ℕ → List ℕ → List ℕ → Answer → Out
 out s table main cache a = record { after = machine s table main cache; answer = a }
 
 -- ---- an access, by its target
+
+-- an entry of the table is no register of the display cache
+pub entry-unlisted : (kind o : ℕ) → isEntry o ≡ true → listedByte kind o ≡ false
+unfolding isEntry listedByte within
+entry-unlisted kind o e =
+    let l : 0x10000 ≤ o = within-from 0x10000 0x10000 o e in
+    simp (le-ltb o 0x3003 (omega arith), choices)
 
 -- a write of a table entry leaves the other registers
 entry-keeps : (s : State) (o v : ℕ) → isEntry o ≡ true → mappedWritten s o v ≡ s

@@ -104,8 +104,11 @@ fn resolve(
             if mapped::misfit(m.kind, o, a.width) {
                 return Target::Refused(10, 0);
             }
-            if (2 <= m.kind) & mapped::is_entry(o) {
-                return entry_target(m, control, o);
+            if mapped::is_entry(o) {
+                if 2 <= m.kind {
+                    return entry_target(m, control, o);
+                }
+                return Target::Mapped(o);
             }
             if mapped::listed_byte(m.kind, o) {
                 return Target::CacheRegister(o);
