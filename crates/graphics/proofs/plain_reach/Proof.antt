@@ -1,41 +1,35 @@
 use borrow.Author.Needs.{needs}
-use mathlib.Core.Path.{_≡_}
-use mathlib.Core.Bool.{true, false}
-use lib.Dec.{leb}
-use borrow.Author.Tests.{lt-leb}
-use Rattle.gmch.specs.Choice.{_or_}
-use Rattle.gmch.specs.Map.{protectedAt}
-use Rattle.gmch.specs.Table.{foreign}
-use Rattle.gmch.proofs.Choice.{tests, flag, or-false, or-no-left, or-no-right}
+use borrow.Author.Tests.{ne-eqb, eq-eqb}
+use mathlib.Core.Path.{_≡_, sym, _∙_}
+use Rattle.gmch.specs.Table.{entryReach}
+use Rattle.gmch.proofs.Choice.{tests, flag, pick-true, pick-false}
 use Rattle.gmch.proofs.Table.{without-cache}
+use Rattle.graphics.specs.Refusal.{placed}
+use Rattle.graphics.proofs.Pages.{main-placed}
 use Rattle.graphics.proofs.plain_reach.Statement.{statement}
 use Rattle.graphics.proofs.plain_reach.Tie as tie
 
-main : (c : tie.Else2) → foreign (c .before .before .before .args .entry) ≡ false
-main c = flag (c .before .foreign .ensures) (c .if2 .left)
+-- by the code that refuses its page
+by-page : (c : tie.After-main-refusal) → let s = c .before .before .before .before .before .args in placed (s .entry) (c .main-refusal .result) (s .o) ≡ entryReach (s .m) (s .entry) (s .o)
+by-page c =
+    let s = c .before .before .before .before .before .args in
+    rw (c .main-refusal .ensures, c .before .page-of .ensures)
+    (main-placed (s .m) (s .entry) (s .o) (ne-eqb _ _ (c .before .before .before .before .if1 .left)) (flag (c .before .before .before .foreign .ensures) (c .before .before .if2 .left)))
 
--- a page below TOM that is closed is protected
-below : (c : tie.Else4) → leb (c .before .before .before .before .before .before .before .before .args .m .tom) (c .before .before .before .before .page-of .result) ≡ false
-below c = lt-leb _ _ (c .if4 .left)
-
-protected : (c : tie.Else4) → let m = c .before .before .before .before .before .before .before .before .args .m in protectedAt (m .tom) (m .smram) (c .before .before .before .before .page-of .result) ≡ true
-protected c = rw (below c, or-false) at (flag (c .before .before .before .closed-at .ensures) (c .before .before .if3 .taken))
-
--- one that is not closed is neither
-neither : (c : tie.Else3) → let m = c .before .before .before .before .before .before .args .m in
-    (protectedAt (m .tom) (m .smram) (c .before .before .page-of .result) or leb (m .tom) (c .before .before .page-of .result)) ≡ false
-neither c = flag (c .before .closed-at .ensures) (c .if3 .left)
+returns-4 : tie.Need-returns-4
+returns-4 c =
+    let f = flag (c .before .before .before .before .foreign .ensures) (c .before .before .before .if2 .left) in
+    rw (c .before .before .page-of .ensures) (sym (pick-true _ _ (eq-eqb _ _ (c .if3 .left)) ∙ pick-false _ _ f) ∙ by-page (c .before))
 
 pub plain-reach-spec : {M : Type 1} → statement M
 plain-reach-spec =
     tie.close
     (tie.spec
-    (λ c. rw (without-cache (c .before .args .m) (c .before .args .entry) (c .before .args .o) (c .before .pre .1)) (search tests))
+    (λ c. unfold entryReach in search tests)
     (λ c κs. search needs)
-    (λ c. rw (without-cache (c .before .before .before .args .m) (c .before .before .before .args .entry) (c .before .before .before .args .o) (c .before .before .before .pre .1)) (search (tests, flag (c .before .foreign .ensures) (c .if2 .taken))))
+    (λ c. let s = c .before .before .before in rw (without-cache (s .args .m) (s .args .entry) (s .args .o) (s .pre .1)) (search (tests, flag (c .before .foreign .ensures) (c .if2 .taken))))
     (λ c κs. search needs)
     (λ c κs. search needs)
-    (λ c. rw (without-cache (c .before .before .before .before .before .before .before .before .args .m) (c .before .before .before .before .before .before .before .before .args .entry) (c .before .before .before .before .before .before .before .before .args .o) (c .before .before .before .before .before .before .before .before .pre .1), ← c .before .before .before .before .page-of .ensures) (search (tests, main (c .before .before .before .before .before))))
-    (λ c. rw (without-cache (c .before .before .before .before .before .before .before .before .args .m) (c .before .before .before .before .before .before .before .before .args .entry) (c .before .before .before .before .before .before .before .before .args .o) (c .before .before .before .before .before .before .before .before .pre .1), ← c .before .before .before .before .page-of .ensures) (search (tests, main (c .before .before .before .before .before), below c, protected c)))
+    (λ c. sym (pick-false _ _ (ne-eqb _ _ (c .if3 .taken))) ∙ by-page (c .before))
     (λ c. search needs)
-    (λ c. rw (without-cache (c .before .before .before .before .before .before .args .m) (c .before .before .before .before .before .before .args .entry) (c .before .before .before .before .before .before .args .o) (c .before .before .before .before .before .before .pre .1), ← c .before .before .page-of .ensures) (search (tests, main (c .before .before .before), or-no-left _ _ (neither c), or-no-right _ _ (neither c)))))
+    returns-4)

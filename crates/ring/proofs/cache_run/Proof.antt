@@ -13,12 +13,12 @@ use Rattle.ring.proofs.cache_run.Statement.{statement}
 use Rattle.ring.proofs.cache_run.Tie as tie
 
 abbrev Inv-loop : tie.InvT-loop
-Inv-loop m table memory display budget control q₀ count₀ q count =
-    (count ≤ budget)
-    × (run (fetchIn m control table) (budget - count) count q (lent memory display) ≡ run (fetchIn m control table) budget 0 q₀ (lent memory display))
+Inv-loop m table memory display budget control q₀ steps₀ q steps =
+    (steps ≤ budget)
+    × (run (fetchIn m control table) (budget - steps) steps q (lent memory display) ≡ run (fetchIn m control table) budget 0 q₀ (lent memory display))
 
 abbrev μ-loop : tie.MeasureT-loop
-μ-loop m table memory display budget control q₀ count₀ q count = budget - count
+μ-loop m table memory display budget control q₀ steps₀ q steps = budget - steps
 
 returns : tie.Need-returns Inv-loop μ-loop
 returns c =
