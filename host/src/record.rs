@@ -484,11 +484,13 @@ pub enum Refusal {
     UnknownInstruction = 12,
     /// Record breaks the layout.
     Layout = 13,
+    /// With the lock set, a table write would store a valid entry of type 00 or 11 whose page is protected.
+    ForbiddenEntry = 16,
 }
 
 impl Refusal {
     /// Every refusal, in the order of its code.
-    pub const ALL: [Refusal; 13] = [
+    pub const ALL: [Refusal; 14] = [
         Refusal::Arguments,
         Refusal::Width,
         Refusal::TranslationOff,
@@ -502,6 +504,7 @@ impl Refusal {
         Refusal::RingOffset,
         Refusal::UnknownInstruction,
         Refusal::Layout,
+        Refusal::ForbiddenEntry,
     ];
 
     /// The refusal of a code; none for 0 and for numbers that are no code.
@@ -527,11 +530,12 @@ impl Refusal {
             11 => Refusal::RingOffset,
             12 => Refusal::UnknownInstruction,
             13 => Refusal::Layout,
+            16 => Refusal::ForbiddenEntry,
             _ => return None,
         })
     }
 
-    /// The number of document 01's table of codes.
+    /// The number of document 01's table of codes, or of the request that adds it.
     #[inline]
     pub const fn code(self) -> u8 {
         self as u8
@@ -558,6 +562,7 @@ impl Refusal {
             Refusal::RingOffset => "ring head or tail offset is not below the ring length",
             Refusal::UnknownInstruction => "unknown instruction",
             Refusal::Layout => "record breaks the layout",
+            Refusal::ForbiddenEntry => "SMRAM is locked and the entry's page is protected",
         }
     }
 }
@@ -763,11 +768,11 @@ mod tests {
         for number in 0..=u8::MAX {
             assert_eq!(Kind::from_number(number).map(Kind::number), (1..=9).contains(&number).then_some(number));
             assert_eq!(Target::from_number(number).map(Target::number), (number <= 6).then_some(number));
-            assert_eq!(Refusal::from_code(number).map(Refusal::code), (1..=13).contains(&number).then_some(number));
+            assert_eq!(Refusal::from_code(number).map(Refusal::code), (matches!(number, 1..=13 | 16)).then_some(number));
         }
         assert_eq!(Kind::ALL.map(Kind::number), [1, 2, 3, 4, 5, 6, 7, 8, 9]);
         assert_eq!(Target::ALL.map(Target::number), [0, 1, 2, 3, 4, 5, 6]);
-        assert_eq!(Refusal::ALL.map(Refusal::code), [1, 2, 3, 4, 5, 6, 7, 8, 9, 10, 11, 12, 13]);
+        assert_eq!(Refusal::ALL.map(Refusal::code), [1, 2, 3, 4, 5, 6, 7, 8, 9, 10, 11, 12, 13, 16]);
     }
 
     /// "Kinds: 1 I/O read, ... 9 reset", and each constructor keeps the layout.
