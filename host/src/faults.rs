@@ -226,6 +226,120 @@ faults! {
     /// A reset leaves 2020h.
     ResetKeepsTableControl,
 
+    // No bad entries after the lock: request 9 of document 02. A forbidden entry is one that gets code 16.
+    /// Forbidden entries are stored, as document 01 has it.
+    ForbiddenEntryStored,
+    /// Entries are forbidden whether SMRAM is locked or not.
+    ForbiddenWithoutLock,
+    /// Entries are forbidden until SMRAM is locked, and not from then on.
+    ForbiddenUntilLocked,
+    /// With the lock set every table write is refused with code 16.
+    LockedTableClosed,
+    /// Data with bits 31:30 set is stored: they count in its page.
+    ForbiddenHighBitsCount,
+    /// Data with bits 11:3 set is stored: its low twelve bits are not those of type 00 or 11.
+    ForbiddenLowBitsCount,
+    /// An entry that is not valid is forbidden, too.
+    InvalidEntryForbidden,
+    /// Entries of type 00 are not forbidden.
+    Type00NotForbidden,
+    /// Entries of type 11 are not forbidden.
+    Type11NotForbidden,
+    /// Entries of type 01 are forbidden, too.
+    Type01Forbidden,
+    /// Entries of type 10 are forbidden, too.
+    Type10Forbidden,
+    /// A page at or above TOM is forbidden, too.
+    PageAboveMemoryForbidden,
+    /// A page of taken memory is forbidden, too.
+    TakenPageForbidden,
+    /// A page of A0000h-BFFFFh is forbidden whatever LSMM and USMM are.
+    OpenRangeForbidden,
+    /// A page of the last 1 MiB is forbidden whatever USMM is.
+    LastMebibyteForbidden,
+    /// The page before protected memory is forbidden, too.
+    PageBeforeForbidden,
+    /// The page after protected memory is forbidden, too.
+    PageAfterForbidden,
+    /// The first page of protected memory is not forbidden.
+    FirstPageNotForbidden,
+    /// The last page of protected memory is not forbidden.
+    LastPageNotForbidden,
+    /// Pages of the TSEG are not forbidden.
+    TsegNotForbidden,
+    /// Pages of A0000h-BFFFFh are not forbidden.
+    CompatibleRangeNotForbidden,
+    /// Pages of A0000h-BFFFFh are not forbidden where HSEG acts.
+    HsegNotForbidden,
+    /// Pages of A0000h-BFFFFh are not forbidden where LSMM is 10.
+    CodeReadsOnlyNotForbidden,
+    /// Bits 28:12 alone of the page are looked at.
+    ForbiddenOf29Bits,
+    /// The window offset of the entry is looked at and not its page.
+    ForbiddenByOffset,
+    /// Management mode stores forbidden entries.
+    ManagementStoresForbidden,
+    /// Forbidden entries are stored in a table in main memory.
+    ForbiddenInPrivateTableOnly,
+    /// Forbidden entries are stored in the private table.
+    ForbiddenInMainMemoryOnly,
+    /// Forbidden entries are stored on board kinds 1 and 3.
+    ForbiddenOn82810Only,
+    /// Forbidden entries are stored while translation is off.
+    ForbiddenNeedsTranslation,
+    /// Forbidden entries are stored where the window does not reach.
+    ForbiddenInWindowOnly,
+    /// A forbidden entry is stored where the same one is already.
+    SameEntryStored,
+    /// A forbidden entry is ignored, and the write is answered.
+    ForbiddenIgnored,
+    /// A forbidden entry is stored with its valid bit cleared.
+    ForbiddenStoredInvalid,
+    /// A forbidden entry is refused with code 6.
+    ForbiddenIsCode6,
+    /// A forbidden entry is refused, and stored in the private table all the same.
+    ForbiddenEntryLands,
+    /// A forbidden entry is refused, and stored in main memory all the same.
+    ForbiddenWordLands,
+    /// A forbidden entry is refused, and what was there is cleared.
+    ForbiddenClearsEntry,
+    /// A forbidden entry sets the error bit.
+    ForbiddenSetsError,
+    /// Code 16 comes before code 10, of the data as it is.
+    ForbiddenBeforeExactness,
+    /// Code 16 comes before code 10, where the bytes written would make a forbidden entry of what is there.
+    ForbiddenBytesBeforeExactness,
+    /// Code 16 comes before 7 and 6 of the word.
+    ForbiddenBeforeWord,
+    /// Code 16 comes after 7 of the word, but before 6.
+    ForbiddenBeforeProtectedWord,
+    /// A read of a forbidden entry is refused with code 16.
+    ForbiddenReadRefused,
+    /// A forbidden entry reads 0.
+    ForbiddenReadsZero,
+    /// The write that sets the lock clears the forbidden entries of the private table.
+    LockDropsEntries,
+    /// With the lock set, protection is not checked where an entry of the private table is used.
+    LockEndsCheckAtUse,
+    /// With the lock set, protection is not checked where an entry of a table in main memory is used.
+    LockEndsCheckOfWords,
+    /// With the lock set, the use of an entry whose page is protected is refused with code 16.
+    UseAfterLockIsCode16,
+    /// An ordinary write of the processor that makes a table word a forbidden entry is refused with code 16.
+    OrdinaryWriteForbidden,
+    /// A hub master's write that makes a table word a forbidden entry is refused with code 16.
+    MasterWriteForbidden,
+    /// A write through the window that makes a table word a forbidden entry is refused with code 16.
+    WindowWriteForbidden,
+    /// Code 16 shows the register's offset.
+    Code16ShowsOffset,
+    /// Code 16 shows the page.
+    Code16ShowsPage,
+    /// Code 16 has the word as its value.
+    Code16ShowsWord,
+    /// Code 16 has target 5.
+    Code16WithTarget,
+
     // Where it was refused: request 5 of document 02.
     /// A refused window access shows the start of its offset's page.
     PageOffsetShown,

@@ -768,7 +768,10 @@ mod tests {
         for number in 0..=u8::MAX {
             assert_eq!(Kind::from_number(number).map(Kind::number), (1..=9).contains(&number).then_some(number));
             assert_eq!(Target::from_number(number).map(Target::number), (number <= 6).then_some(number));
-            assert_eq!(Refusal::from_code(number).map(Refusal::code), (matches!(number, 1..=13 | 16)).then_some(number));
+            assert_eq!(
+                Refusal::from_code(number).map(Refusal::code),
+                (matches!(number, 1..=13 | 16)).then_some(number)
+            );
         }
         assert_eq!(Kind::ALL.map(Kind::number), [1, 2, 3, 4, 5, 6, 7, 8, 9]);
         assert_eq!(Target::ALL.map(Target::number), [0, 1, 2, 3, 4, 5, 6]);

@@ -10,6 +10,7 @@
 
 mod configuration;
 mod display;
+mod forbidden;
 mod observe;
 mod registers;
 mod ring;
@@ -406,6 +407,9 @@ impl<'m, O: Observer, F: Faults> Gmch<'m, O, F> {
         let named = answer.code != 0 && answer.address != 0;
         if self.wrong(Fault::RefusedWithTarget) && named && by_processor() {
             answer.target = Target::Memory.number();
+        }
+        if answer.code == Refusal::ForbiddenEntry.code() {
+            self.show_forbidden(record, answer);
         }
     }
 

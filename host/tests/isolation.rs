@@ -28,6 +28,7 @@ fn two_runs_that_differ_in_protected_memory_cannot_be_told_apart() {
     assert!(tally.trials.iter().all(|&trials| trials > 0));
     assert!(tally.protected_pages > 0);
     assert!(tally.protected_words > 0);
+    assert!(tally.forbidden_entries.iter().all(|&refused| refused > 0));
     assert!(tally.shown_offsets.iter().all(|&shown| shown > 0));
     assert!(tally.power_states.iter().all(|&held| held > 0));
     assert!(tally.discarded_states > 0);

@@ -286,7 +286,7 @@ impl<O: Observer, F: Faults> Gmch<'_, O, F> {
     /// "A write touches only its bytes."
     fn config_write(&mut self, device: usize, register: usize, width: usize, data: u32) {
         let touched = register..register + width;
-        let written = self.subsystem_written;
+        let (written, locked) = (self.subsystem_written, self.smram().locked());
         for (at, mut byte) in touched.zip(data.to_le_bytes()) {
             let mut plain = LAYOUTS[device].plain[at];
             let mut clears = LAYOUTS[device].clears[at];
@@ -302,6 +302,9 @@ impl<O: Observer, F: Faults> Gmch<'_, O, F> {
             }
             let old = self.devices[device][at];
             self.devices[device][at] = (old & !plain | byte & plain) & !(byte & clears);
+        }
+        if self.wrong(Fault::LockDropsEntries) && !locked && self.smram().locked() {
+            self.drop_forbidden();
         }
     }
 

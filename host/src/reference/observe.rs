@@ -44,7 +44,7 @@ pub trait Observer {
     #[inline(always)]
     fn looked_up(&mut self, _entry: u32) {}
 
-    /// A word of a translation table in main memory was asked for. Where it was not refused,
+    /// A word of a translation table in main memory was asked for. Where it was read or stored,
     /// [`Observer::touched`] comes next, with its four bytes.
     #[inline(always)]
     fn table_word(&mut self, _word: TableWord) {}
@@ -145,7 +145,8 @@ pub enum WordUse {
 }
 
 /// One use of a word of a translation table in main memory: request 10 of document 02. With [`TableWord::refusal`] a
-/// code 7 or 6 is the word's own, and without it the entry's.
+/// code 7 or 6 is the word's own, and without it the entry's. A write that is refused with code 16 reached its word, but
+/// stored nothing there: it has neither a refusal nor a value.
 ///
 /// ```
 /// use mitrophel::reference::{Gmch, Observer, TableWord, WordUse, TABLE_WORDS};
@@ -181,7 +182,8 @@ pub struct TableWord {
     pub address: u64,
     /// What it was asked for.
     pub by: WordUse,
-    /// What was read or stored; none where the word was refused.
+    /// What was read or stored; none where the word was refused, or where what was to be stored is
+    /// [forbidden](Refusal::ForbiddenEntry).
     pub value: Option<u32>,
     /// The word's own code 7 or 6.
     pub refusal: Option<Refusal>,

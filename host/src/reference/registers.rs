@@ -100,7 +100,8 @@ const USER_INTERRUPT: u16 = 1 << 1;
 
 impl<O: Observer, F: Faults> Gmch<'_, O, F> {
     /// Code 10: "access touches a listed memory-mapped register without being exactly it". Others
-    /// "read 0, ignore writes". The codes of a table word in main memory come "after code 10 for a register access".
+    /// "read 0, ignore writes". The codes of a table word in main memory come "after code 10 for a register access", and
+    /// so does code 16 of what is to be stored.
     #[inline]
     pub(super) fn register_access(&mut self, offset: u32, access: Access, mode: Mode) -> Result<Answer, Refusal> {
         if let Some(wrong) = self.wrong_display_access(offset, access) {
@@ -114,6 +115,11 @@ impl<O: Observer, F: Faults> Gmch<'_, O, F> {
                     Listed::Entry(i) if self.table_in_memory() => Some(i),
                     _ => None,
                 };
+                if let Listed::Entry(i) = listed {
+                    if let Some(wrong) = self.wrong_entry_access(i, access) {
+                        return wrong.map(|value| reached(Target::MemoryMapped, offset, value));
+                    }
+                }
                 if let (Some(i), true) = (word, self.wrong(Fault::WordBeforeExactness)) {
                     self.reach_word(i, WordUse::of(access))?;
                 }
@@ -124,7 +130,7 @@ impl<O: Observer, F: Faults> Gmch<'_, O, F> {
                     (Some(i), _) => return self.word_access(i, offset, access, mode),
                     (None, None) => self.register_read(listed),
                     (None, Some(data)) => {
-                        self.register_write(listed, data);
+                        self.register_write(listed, data, mode)?;
                         0
                     }
                 }
@@ -180,9 +186,9 @@ impl<O: Observer, F: Faults> Gmch<'_, O, F> {
             || self.board == Board::I82810 && self.wrong(Fault::DisplayRegistersOnKind0)
     }
 
-    /// A listed register; a table word is one of the private table.
+    /// A listed register; a table word is one of the private table, and may be refused.
     #[inline]
-    fn register_write(&mut self, listed: Listed, data: u32) {
+    fn register_write(&mut self, listed: Listed, data: u32, mode: Mode) -> Result<(), Refusal> {
         match listed {
             Listed::Fence(i) => self.fences[i] = Fence(data & Fence::BITS),
             Listed::TableControl => self.table_control = data & TABLE_CONTROL_BITS,
@@ -200,10 +206,10 @@ impl<O: Observer, F: Faults> Gmch<'_, O, F> {
                 }
             }
             Listed::InterruptStatus => {}
-            Listed::Entry(i) if self.wrong(Fault::EntryStoredWhole) => self.table[i] = data,
-            Listed::Entry(i) => self.table[i] = data & self.entry_bits(),
+            Listed::Entry(i) => return self.write_entry(i, data, mode),
             Listed::Display(i) => self.write_display_register(i, data as u8),
         }
+        Ok(())
     }
 
     /// What an entry's register write stores.

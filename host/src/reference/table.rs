@@ -151,7 +151,7 @@ impl<O: Observer, F: Faults> Gmch<'_, O, F> {
                 false => self.word_at(address),
             }
         });
-        self.tell_of_word(number, WordUse::Lookup, word);
+        self.tell_of_word(number, WordUse::Lookup, word.err(), word.ok());
         word
     }
 
@@ -169,12 +169,14 @@ impl<O: Observer, F: Faults> Gmch<'_, O, F> {
         if self.wrong(Fault::TranslationOffStopsRegisters) && !self.translation_on() {
             return Err(Refusal::TranslationOff);
         }
-        let result = self.reach_word(number, WordUse::of(access)).map(|address| match access.data {
-            None => self.word_at(address) & if self.wrong(Fault::MemoryWordReadMasked) { ENTRY_BITS } else { u32::MAX },
-            Some(data) => self.store_word(number, address, data),
+        let place = self.reach_word(number, WordUse::of(access));
+        let result = place.and_then(|address| match access.data {
+            None if self.wrong(Fault::MemoryWordReadMasked) => Ok(self.word_at(address) & ENTRY_BITS),
+            None => Ok(self.word_at(address)),
+            Some(data) => self.write_word(number, address, data, mode),
         });
-        self.tell_of_word(number, WordUse::of(access), result);
-        if result == Err(Refusal::PageProtected) {
+        self.tell_of_word(number, WordUse::of(access), place.err(), result.ok());
+        if place == Err(Refusal::PageProtected) {
             if self.wrong(Fault::ProtectedWordSetsError) {
                 self.set_error(access);
             }
@@ -192,24 +194,54 @@ impl<O: Observer, F: Faults> Gmch<'_, O, F> {
         })
     }
 
-    /// "a write masks as in 01": the word as it is stored.
+    /// A write of an entry in the private table: "Entry i (10000h + 4i) stores data AND 3FFFF007h".
     #[inline]
-    fn store_word(&mut self, number: usize, address: u32, data: u32) -> u32 {
-        let word = data & if self.wrong(Fault::MemoryWordStoredWhole) { u32::MAX } else { self.entry_bits() };
+    pub(super) fn write_entry(&mut self, number: usize, data: u32, mode: Mode) -> Result<(), Refusal> {
+        match self.stored_word(number, data, mode) {
+            Ok(_) if self.wrong(Fault::EntryStoredWhole) => self.table[number] = data,
+            Ok(word) => self.table[number] = word,
+            Err(refusal) => {
+                if let Some(word) = self.stored_although_refused(data) {
+                    self.table[number] = word;
+                }
+                return Err(refusal);
+            }
+        }
+        Ok(())
+    }
+
+    /// A write of a word in main memory, "a write masks as in 01": the word as it is stored.
+    #[inline]
+    fn write_word(&mut self, number: usize, address: u32, data: u32, mode: Mode) -> Result<u32, Refusal> {
+        let stored = self.stored_word(number, data, mode);
+        match stored {
+            Ok(_) if self.wrong(Fault::MemoryWordStoredWhole) => self.store_word(number, address, data),
+            Ok(word) => self.store_word(number, address, word),
+            Err(_) => {
+                if let Some(word) = self.stored_although_refused(data) {
+                    self.store_word(number, address, word);
+                    self.observer.touched(Touch { address, width: 4, write: true, protected: false });
+                }
+            }
+        }
+        stored
+    }
+
+    #[inline]
+    fn store_word(&mut self, number: usize, address: u32, word: u32) {
         let at = address as usize;
         self.memory[at..at + 4].copy_from_slice(&word.to_le_bytes());
         if self.wrong(Fault::LookupsSeeRegisterWritesOnly) {
             self.table[number] = word;
         }
-        word
     }
 
-    /// Tells the observer of a word in main memory.
+    /// Tells the observer of a word in main memory: its own refusal, and what was read or stored.
     #[inline]
-    fn tell_of_word(&mut self, number: usize, by: WordUse, result: Result<u32, Refusal>) {
+    fn tell_of_word(&mut self, number: usize, by: WordUse, refusal: Option<Refusal>, value: Option<u32>) {
         let address = self.word_address(number);
-        self.observer.table_word(TableWord { number, address, by, value: result.ok(), refusal: result.err() });
-        if result.is_ok() {
+        self.observer.table_word(TableWord { number, address, by, value, refusal });
+        if value.is_some() {
             let (address, write) = (address as u32, by == WordUse::Write);
             self.observer.touched(Touch { address, width: 4, write, protected: self.protected(address) });
         }
@@ -219,8 +251,8 @@ impl<O: Observer, F: Faults> Gmch<'_, O, F> {
     pub(super) fn clear_words(&mut self) {
         for number in 0..TABLE_WORDS {
             if let Ok(address) = self.reach_word(number, WordUse::Write) {
-                let word = self.store_word(number, address, 0);
-                self.tell_of_word(number, WordUse::Write, Ok(word));
+                self.store_word(number, address, 0);
+                self.tell_of_word(number, WordUse::Write, None, Some(0));
             }
         }
     }

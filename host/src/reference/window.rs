@@ -110,6 +110,9 @@ impl<O: Observer, F: Faults> Gmch<'_, O, F> {
             result => result?,
         };
         Ok(match place {
+            Place::Memory(address) if self.refuses_ordinary_write(Fault::WindowWriteForbidden, address, access) => {
+                return Err(Refused { refusal: Refusal::ForbiddenEntry, offset });
+            }
             Place::Memory(address) => self.memory_access(address, access),
             Place::DisplayCache(address) => self.display_access(address, access),
         })
@@ -266,10 +269,24 @@ impl<O: Observer, F: Faults> Gmch<'_, O, F> {
         } else {
             page
         };
-        if self.protected(tested) && !self.wrong(Fault::ProtectionNotChecked) {
-            return Err(Refusal::PageProtected);
+        if self.protected(tested) && !self.wrong(Fault::ProtectionNotChecked) && !self.checked_at_store() {
+            return Err(match self.wrong(Fault::UseAfterLockIsCode16) && self.smram().locked() {
+                true => Refusal::ForbiddenEntry,
+                false => Refusal::PageProtected,
+            });
         }
         Ok(Place::Memory(page + offset % 4096))
+    }
+
+    /// Whether a wrong reference trusts that no such entry is there: "Before the lock, and for entries already there, the
+    /// check at use remains."
+    #[inline]
+    fn checked_at_store(&self) -> bool {
+        let trusts = match self.table_in_memory() {
+            true => self.wrong(Fault::LockEndsCheckOfWords),
+            false => self.wrong(Fault::LockEndsCheckAtUse),
+        };
+        trusts && self.smram().locked()
     }
 
     /// "Entry type 01 reaches it", the display cache.
@@ -315,6 +332,6 @@ impl<O: Observer, F: Faults> Gmch<'_, O, F> {
 
 /// "page 29:12". Request 6 of document 02: "Entry pages reach that far", to 1,024 MiB, so that there none is above TOM.
 #[inline]
-const fn entry_page(entry: u32) -> u32 {
+pub(super) const fn entry_page(entry: u32) -> u32 {
     entry & 0x3FFF_F000
 }

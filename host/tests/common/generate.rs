@@ -1,4 +1,4 @@
-//! Random lists of records that reach the corners of document 01 and of requests 3, 5, 6, 10 and 11 of document 02.
+//! Random lists of records that reach the corners of document 01 and of requests 3, 5, 6, 9, 10 and 11 of document 02.
 //!
 //! A list is made while the reference replays it, so that each record can aim at the state that it
 //! will meet: at the borders of the map as they stand, at entries and fences that are set, at the
@@ -99,12 +99,15 @@ impl<'m> Generator<'m> {
         generator
     }
 
-    /// A whole list: a scene, then `actions` actions.
+    /// A whole list: a scene, then `actions` actions and, at the end of some, the lock.
     pub fn fill(&mut self, actions: u32) {
         if !self.random.one_in(12) {
             self.scene();
         }
         self.act_for(actions);
+        if self.random.one_in(4) {
+            self.lock_over_entries();
+        }
     }
 
     pub fn act_for(&mut self, actions: u32) {
@@ -125,6 +128,9 @@ impl<'m> Generator<'m> {
             window_base: self.hub.window_base(),
             window_bytes: self.hub.window_bytes(),
             fences: std::array::from_fn(|number| self.hub.fence(number).map_or(0, |fence| fence.0)),
+            smram: self.hub.smram().0,
+            held: self.held_by_register(record.address),
+            table: self.hub.table_word_address(0),
             pm_cs: u16::from_le_bytes([0xE0, 0xE1].map(|at| self.hub.config_byte(1, at).unwrap_or(0))),
             display_on: self.hub.display_on(),
             display_registers: [0x3000, 0x3001, 0x3002].map(|at| self.hub.register(at).unwrap_or(0) as u8),
@@ -133,6 +139,13 @@ impl<'m> Generator<'m> {
         let answer = self.hub.answer(&record);
         self.records.push(record);
         self.answers.push(answer);
+    }
+
+    /// The table word whose register is at this address, if it is there and can be read.
+    fn held_by_register(&self, address: u32) -> Option<u32> {
+        let offset = address.wrapping_sub(self.hub.registers_base());
+        let number = (0x1_0000..0x2_0000).contains(&offset).then(|| (offset - 0x1_0000) as usize / 4)?;
+        self.hub.table_word(number).ok()
     }
 
     // Setting a scene ---------------------------------------------------------------------------
@@ -187,6 +200,9 @@ impl<'m> Generator<'m> {
         }
         if self.table_in_memory() && self.random.one_in(8) {
             return self.move_table();
+        }
+        if self.hub.smram().locked() && self.random.one_in(12) {
+            return self.write_guarded();
         }
         match self.random.below(70) {
             0..=8 => self.access_window(),
@@ -744,6 +760,111 @@ impl<'m> Generator<'m> {
         self.store_entry(Fence(fence).tiled(offset) / PAGE, entry);
         for _ in 0..2 + self.random.below(2) {
             self.access(self.hub.window_base().wrapping_add(offset));
+        }
+    }
+
+    // Entries that a locked board does not store --------------------------------------------------
+
+    /// An entry of protected memory or of a page beside it, with any bits that its register does not store.
+    fn guarded_entry(&mut self) -> u32 {
+        let protected: Vec<_> = self.hub.protected_ranges().collect();
+        let within = match protected.len() as u32 {
+            0 => 0xA_0000..0xC_0000,
+            ranges => protected[self.random.below(ranges) as usize].clone(),
+        };
+        let page = match self.random.below(10) {
+            0 => within.start,
+            1 => within.end - PAGE,
+            2 => within.start - PAGE,
+            3 => within.end,
+            4 => self.hub.tom() - self.random.below(MIB),
+            5 => self.hub.tom() + PAGE * self.random.below(4096),
+            _ => within.start + self.random.below(within.end - within.start),
+        };
+        let memory_type = self.random.pick(&[0, 0, 0, 3, 3, 3, 1, 2]);
+        let valid = u32::from(!self.random.one_in(6));
+        let noise = if self.random.one_in(2) { self.random.word() & 0xC000_0FF8 } else { 0 };
+        page & 0x3FFF_F000 | memory_type << 1 | valid | noise
+    }
+
+    /// Writes such an entry in one of the ways there are, and looks what became of it.
+    fn write_guarded(&mut self) {
+        let number = match self.random.below(4) {
+            0 => self.random.below(TABLE_WORDS as u32),
+            _ => self.window_page() % TABLE_WORDS as u32,
+        };
+        let register = 0x1_0000 + 4 * number;
+        let entry = self.guarded_entry();
+        match self.random.below(10) {
+            // A part of the register, with the whole entry as data or with the byte that makes it valid.
+            0 => {
+                let (at, width) = self.random.pick(&[(0, 1), (0, 2), (1, 2), (2, 2), (3, 1)]);
+                self.register_write(register + at, width, entry);
+            }
+            1 => {
+                self.register_write(register, 4, entry & !1);
+                self.register_write(register, 1, entry & 0xFF | 1);
+            }
+            // The same twice, whether it is stored or not.
+            2 => {
+                self.store_entry(number, entry);
+                self.register_write(register, 4, entry);
+            }
+            3 if self.table_in_memory() => {
+                let before = self.hub.register(0x2020).unwrap_or(0);
+                let base = self.table_base(number);
+                self.register_write(0x2020, 4, base | before & 1);
+                self.register_write(register, 4, entry);
+                self.register_write(0x2020, 4, before);
+            }
+            4 | 5 => self.store_entry(number, entry),
+            _ => {
+                let management = self.random.one_in(3);
+                self.emit(Record::write(self.hub.registers_base().wrapping_add(register), 4, entry, management));
+            }
+        }
+        if !self.random.one_in(4) {
+            self.register_read(register);
+        }
+        if self.random.one_in(2) {
+            let offset = number * PAGE + self.random.below(PAGE);
+            self.access(self.hub.window_base().wrapping_add(offset));
+        }
+        if self.random.one_in(6) {
+            self.fetch_by(number);
+        }
+        if self.random.one_in(6) {
+            self.read_smram();
+        }
+    }
+
+    /// Entries of what is protected are stored, then the lock is set, and the entries are used and written again.
+    fn lock_over_entries(&mut self) {
+        if !self.reaches_registers() {
+            self.repair();
+        }
+        if !self.hub.smram().locked() {
+            let smram = self.random.word() as u8 & !0x02 | 0x40;
+            self.set_smram(smram);
+        }
+        let numbers: Vec<u32> = (0..3).map(|_| self.window_page() % TABLE_WORDS as u32).collect();
+        let entries: Vec<u32> = numbers.iter().map(|_| self.guarded_entry()).collect();
+        for (&number, &entry) in numbers.iter().zip(&entries) {
+            self.register_write(0x1_0000 + 4 * number, 4, entry);
+        }
+        let smram = self.hub.smram().0;
+        self.set_smram(smram | 0x02);
+        for (&number, &entry) in numbers.iter().zip(&entries) {
+            self.register_read(0x1_0000 + 4 * number);
+            let offset = number * PAGE + self.random.below(PAGE);
+            self.access(self.hub.window_base().wrapping_add(offset));
+            if self.random.one_in(3) {
+                self.fetch_by(number);
+            }
+            self.register_write(0x1_0000 + 4 * number, 4, entry);
+        }
+        for _ in 0..4 {
+            self.write_guarded();
         }
     }
 

@@ -34,6 +34,8 @@ pub struct Tally {
     pub protected_pages: u64,
     /// Uses of a table word that were refused because it is protected.
     pub protected_words: u64,
+    /// Table writes that were refused with code 16, by board.
+    pub forbidden_entries: [u64; Board::ALL.len()],
     /// Window accesses whose refusal showed an offset other than 0, with 3, 4, 5, 6, 7 and 9.
     pub shown_offsets: [u64; 6],
     /// Writes of a power state that met 00 and that met 11, and those that were discarded.
@@ -224,6 +226,10 @@ impl Trial {
         let Generator { records, answers, mut random, .. } = generator;
         tally.count_body(&answers[prefix..]);
         tally.protected_words += watch.coverage.protected_words() - prefix_coverage.protected_words();
+        let (refused, before) = (watch.coverage.forbidden.refused(), prefix_coverage.forbidden.refused());
+        for (count, (refused, before)) in tally.forbidden_entries.iter_mut().zip(refused.into_iter().zip(before)) {
+            *count += refused - before;
+        }
         tally.display += watch.coverage.display.reached() - prefix_coverage.display.reached();
         let (shown, before) = (watch.coverage.places.shown(), prefix_coverage.places.shown());
         for (count, (shown, before)) in tally.shown_offsets.iter_mut().zip(shown.into_iter().zip(before)) {

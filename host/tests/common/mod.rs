@@ -4,6 +4,7 @@
 
 pub mod compare;
 pub mod display;
+pub mod forbidden;
 pub mod generate;
 #[cfg(all(target_os = "linux", target_arch = "x86_64"))]
 pub mod guarded;
@@ -14,8 +15,10 @@ pub mod top;
 pub mod words;
 
 use display::Display;
+use forbidden::Forbidden;
+use mitrophel::reference::Smram;
 use mitrophel::reference::{Observer, Rule, TableWord, Touch};
-use mitrophel::{call, record, reference, Answer, Board, Record, Target};
+use mitrophel::{call, record, reference, Answer, Board, Kind, Record, Refusal, Target};
 use places::Places;
 use power::Power;
 use std::fmt;
@@ -23,6 +26,9 @@ use top::{Met, Top};
 use words::{Event, Words};
 
 pub const MIB: usize = 1 << 20;
+
+/// One more than the largest code.
+const CODES: usize = 17;
 
 /// splitmix64: small, seeded, and good enough to choose cases.
 #[derive(Clone)]
@@ -105,6 +111,8 @@ pub struct Watch {
     /// The board's number.
     pub board: usize,
     pub words: Words,
+    /// Whether a reset has opened a locked board.
+    reopened: bool,
 }
 
 impl Observer for Watch {
@@ -144,6 +152,11 @@ impl Observer for Watch {
         let (entry, touch) = (self.entry.take(), self.display_touch.take());
         let (meets, rule, word) = (&self.words.meets, self.words.rule(), self.words.word());
         self.coverage.top.note(self.board, &Met { meets, rule, word, entry, landing, record, answer });
+        let (writer, reopened) = (self.words.writer(), self.reopened);
+        let forbidden = forbidden::Met { meets, rule, entry, writer, reopened, record, answer };
+        self.coverage.forbidden.note(self.board, &forbidden);
+        let reset = record.kind() == Some(Kind::Reset) && answer.code == 0;
+        self.reopened |= reset && Smram(meets.smram).locked();
         let written = !self.display_writes.is_empty();
         self.coverage.display.note(self.board, &display::Met { meets, rule, entry, touch, written, record, answer });
         // A table word may have been touched last, or only.
@@ -161,19 +174,20 @@ impl Observer for Watch {
 }
 
 /// How often each kind, code, target, rule and event was seen, each place of a refusal, each write of a power state, and
-/// each thing that can be met of a display cache.
+/// each thing that can be met of a display cache and of entries that are forbidden.
 #[derive(Clone, Default)]
 pub struct Coverage {
     /// By kind; number 0 counts the records of no kind.
     pub kinds: [u64; 10],
     /// By board.
-    pub codes: [[u64; 14]; Board::ALL.len()],
+    pub codes: [[u64; CODES]; Board::ALL.len()],
     pub targets: [u64; Target::ALL.len()],
     pub rules: [u64; Rule::ALL.len()],
     pub events: [u64; Event::ALL.len()],
     pub places: Places,
     pub power: Power,
     pub display: Display,
+    pub forbidden: Forbidden,
     /// Counted by itself: only the largest memory can be asked for all of it.
     pub top: Top,
 }
@@ -186,7 +200,8 @@ impl Coverage {
     fn counts(&self) -> impl Iterator<Item = &u64> {
         let codes = self.codes.iter().flatten();
         let counts = self.kinds.iter().chain(codes).chain(&self.targets).chain(&self.rules).chain(&self.events);
-        counts.chain(self.places.counts()).chain(self.power.counts()).chain(self.display.counts())
+        let counts = counts.chain(self.places.counts()).chain(self.power.counts()).chain(self.display.counts());
+        counts.chain(self.forbidden.counts())
     }
 
     fn counts_mut(&mut self) -> impl Iterator<Item = &mut u64> {
@@ -198,21 +213,24 @@ impl Coverage {
             .chain(self.places.counts_mut())
             .chain(self.power.counts_mut())
             .chain(self.display.counts_mut())
+            .chain(self.forbidden.counts_mut())
     }
 
     /// What each of the counts is of; none for what cannot be. Code 1 is the call's own result and is in no answer.
     fn names() -> Vec<Option<String>> {
-        let mut names: Vec<String> = (0..10).map(|kind| format!("kind {kind}")).collect();
-        names[0] = "no kind".to_string();
+        let mut names: Vec<_> = (0..10).map(|kind| Some(format!("kind {kind}"))).collect();
+        names[0] = Some("no kind".to_string());
+        let answered =
+            |code| code == 0 || Refusal::from_code(code).is_some_and(|refusal| refusal != Refusal::Arguments);
         for board in Board::ALL {
-            names.extend((0..14).map(|code| format!("code {code}, board {board}")));
+            let codes = (0..CODES as u8).map(|code| answered(code).then(|| format!("code {code}, board {board}")));
+            names.extend(codes);
         }
-        names.extend((0..Target::ALL.len()).map(|target| format!("target {target}")));
-        names.extend(Rule::ALL.iter().map(Rule::to_string));
-        names.extend(Event::ALL.iter().map(Event::to_string));
-        let names = names.into_iter().map(|name| Some(name).filter(|name| !name.starts_with("code 1,")));
-        let names = names.chain(Places::names()).chain(Power::names().into_iter().map(Some));
-        names.chain(Display::names()).collect()
+        names.extend((0..Target::ALL.len()).map(|target| Some(format!("target {target}"))));
+        names.extend(Rule::ALL.iter().map(Rule::to_string).map(Some));
+        names.extend(Event::ALL.iter().map(Event::to_string).map(Some));
+        let names = names.into_iter().chain(Places::names()).chain(Power::names().into_iter().map(Some));
+        names.chain(Display::names()).chain(Forbidden::names()).collect()
     }
 
     /// Each count with its name.

@@ -87,6 +87,11 @@ pub struct Meets {
     pub fences: [u32; 8],
     /// Device 1's register E0h.
     pub pm_cs: u16,
+    /// SMRAM.
+    pub smram: u8,
+    /// The word whose register the record touches, as it is before, and where a table in main memory begins.
+    pub held: Option<u32>,
+    pub table: Option<u64>,
     /// Whether type 01 reaches a display cache, and 3000h to 3002h, which are 0 where they are not listed.
     pub display_on: bool,
     pub display_registers: [u8; 3],
@@ -120,6 +125,11 @@ impl Words {
         self.word
     }
 
+    /// How the record's table word was written last.
+    pub fn writer(&self) -> Option<Event> {
+        self.word.and_then(|word| self.writers.get(&u32::try_from(word.address).ok()?).copied())
+    }
+
     /// Whether the record is an access through the window.
     pub fn by_window(&self) -> bool {
         self.rule == Some(Rule::Window)
@@ -137,7 +147,7 @@ impl Words {
     }
 
     pub fn table_word(&mut self, word: TableWord, coverage: &mut Coverage) {
-        self.own_touch = word.refusal.is_none();
+        self.own_touch = word.value.is_some();
         self.word = Some(word);
         self.lookup = (word.by == WordUse::Lookup && word.refusal.is_none()).then_some(word);
         if let Some(event) = self.outcome(word) {
@@ -146,7 +156,7 @@ impl Words {
         if word.address >= 1 << 32 {
             coverage.note(Event::PastFourGib);
         }
-        if word.refusal.is_some() {
+        if word.value.is_none() {
             return;
         }
         let Meets { tom, usable_top, .. } = self.meets;
@@ -161,12 +171,14 @@ impl Words {
         }
     }
 
-    /// Which of the outcomes this use of a word is; none for a lookup that reads its word.
+    /// Which of the outcomes this use of a word is; none for a lookup that reads its word, and for a write of an entry that
+    /// is forbidden.
     fn outcome(&self, word: TableWord) -> Option<Event> {
         let above = word.refusal.map(|refusal| refusal == Refusal::PageAboveMemory);
         let by_window = self.by_window();
         Some(match (word.by, self.meets.translation_on, above) {
             (WordUse::Lookup, _, None) => return None,
+            (WordUse::Write, _, None) if word.value.is_none() => return None,
             (WordUse::Lookup, _, Some(true)) if by_window => Event::WindowWordAbove,
             (WordUse::Lookup, _, Some(false)) if by_window => Event::WindowWordProtected,
             (WordUse::Lookup, _, Some(true)) => Event::FetchWordAbove,
