@@ -1,16 +1,17 @@
 -- Document 01, 'Records and answers', 'Codes' and 'Where an address goes': one access, where it ends and what it does there.
--- Request 11 of document 02: the display cache and its registers.
+-- Request 9 of document 02: code 16. Request 11: the display cache and its registers.
 use Prim.Native.Nat.{ℕ}
 use mathlib.Core.List.{List}
-use mathlib.Core.Bool.{not}
-use lib.Dec.{leb}
+use mathlib.Core.Bool.{Bool, true, false, not}
+use lib.Dec.{leb, eqb}
 use Rattle.gmch.specs.Choice.{pick, _and_}
 use Rattle.gmch.specs.Words.{loadLe, storeLe}
 use Rattle.gmch.specs.Records.{accessOf, fitsWord, reply}
+use Rattle.gmch.specs.Smram.{lockBit}
 use Rattle.gmch.specs.Config.{withDram, withError, portTarget, registerValue, registerWritten}
 use Rattle.gmch.specs.Machine.{Machine, withState, withTable, withMain, withCache}
 use Rattle.gmch.specs.Map.{mapOf, routeOf, masterTarget}
-use Rattle.gmch.specs.Table.{windowReach, inMemory, wordReach, lookOf}
+use Rattle.gmch.specs.Table.{forbidden, windowReach, inMemory, wordReach, lookOf}
 use Rattle.gmch.specs.Mapped.{listedByte, misfit, isEntry, entryNumber, mappedValue, mappedWritten, stored, tableWritten, dramValue, dramWritten}
 use Rattle.gmch.specs.declared.Board.{Board}
 use Rattle.gmch.specs.declared.Map.{Map}
@@ -62,6 +63,29 @@ unfoldable pub targetOf : Board → Machine → Record → Target
 targetOf b x r =
     let s = x .state in
     targetIn (mapOf b s) (s .cf8) (s .fences) (s .regs .control) (lookOf b x) (r .kind) (accessOf r)
+
+-- ---- code 16: after all others, and the only one that looks at the record's data
+
+-- a word of the table, in either home
+unfoldable pub isTableWord : Target → Bool
+isTableWord (Refused c o) = false
+isTableWord (Memory p) = false
+isTableWord (Cache p) = false
+isTableWord (Register n) = false
+isTableWord (Hub p) = false
+isTableWord (HubError p) = false
+isTableWord (Vga o) = false
+isTableWord (Mapped o) = isEntry o
+isTableWord (Entry o p) = true
+isTableWord (CacheRegister o) = false
+
+-- with the lock set, what a write of v would store there is forbidden
+unfoldable pub barred : Map → ℕ → Bool
+barred m v = eqb (lockBit (m .smram)) 1 and forbidden m (stored v)
+
+-- where a read, or a write of v, ends after all
+unfoldable pub settled : Map → Access → ℕ → Target → Target
+settled m a v t = pick (a .write and (isTableWord t and barred m v)) (Refused 16 0) t
 
 -- ---- what it does there
 
