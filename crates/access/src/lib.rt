@@ -20,7 +20,7 @@ ghost use Rattle.gmch.specs.Machine.{machine};
 ghost use Rattle.gmch.specs.Map.{Tom, Sized, mapIn};
 ghost use Rattle.gmch.specs.Table.{wordReach, lookIn};
 ghost use Rattle.gmch.specs.Mapped.{isEntry, entryNumber, mappedValue, tableWritten};
-ghost use Rattle.gmch.specs.Access.{entryTarget, resolved, targetIn, act};
+ghost use Rattle.gmch.specs.Access.{entryTarget, resolved, targetIn, isTableWord, barred, settled, act};
 ghost use Rattle.access.specs.Decide.{Reachable, InWindow, storeEffect, registerEffect, stateOf, Decides};
 ghost use Rattle.words.specs.Width.{Width};
 
@@ -151,6 +151,52 @@ pub fn target_of(
         return resolve(m, fences, control, table, memory, a, route);
     }
     map::master_target(m, a)
+}
+
+// ---- code 16
+
+// The target is a word of the table, in either home.
+fn is_table_word(t: Target) -> bool
+    ensures { λ r. ⌜ r ≡ isTableWord t ⌝ }
+{
+    match t {
+        Target::Mapped(o) => mapped::is_entry(o),
+        Target::Entry(_, _) => true,
+        Target::Refused(_, _) => false,
+        Target::Memory(_) => false,
+        Target::Cache(_) => false,
+        Target::Register(_) => false,
+        Target::Hub(_) => false,
+        Target::HubError(_) => false,
+        Target::Vga(_) => false,
+        Target::CacheRegister(_) => false,
+    }
+}
+
+// With the lock set, a write of `v` may not store its entry. The host's call shows the length of memory.
+fn barred(m: Map, v: u32) -> bool
+    requires { ⌜ Tom (m .tom) ⌝ }
+    ensures { λ r. ⌜ r ≡ barred m v ⌝ }
+{
+    if m.smram / 2 % 2 == 0 {
+        return false;
+    }
+    graphics::forbidden(m, mapped::stored(v))
+}
+
+// Where a read, or a write of `v`, ends after all. The host's call shows the length of memory.
+pub fn settle(m: Map, a: Access, v: u32, t: Target) -> Target
+    requires { ⌜ Tom (m .tom) ⌝ }
+    ensures { λ r. ⌜ r ≡ settled m a v t ⌝ }
+{
+    if is_table_word(t) {
+        if a.write {
+            if barred(m, v) {
+                return Target::Refused(16, 0);
+            }
+        }
+    }
+    t
 }
 
 // ---- what it does there

@@ -11,7 +11,7 @@ use Rattle.gmch.specs.Machine.{Machine, machine, lent}
 use Rattle.gmch.specs.Map.{mapOf}
 use Rattle.gmch.specs.Table.{fetchIn}
 use Rattle.gmch.specs.Ring.{withHead, run}
-use Rattle.gmch.specs.Access.{targetOf, done, act}
+use Rattle.gmch.specs.Access.{targetOf, settled, done, act}
 use Rattle.gmch.specs.Replay.{fetchFrom, runReply, parserRun, coldStart, coldTable, coldMachine, reset, oneRecord}
 use Rattle.gmch.specs.declared.Board.{Board}
 use Rattle.gmch.specs.declared.State.{State}
@@ -39,7 +39,7 @@ module _ (b : Board) (x : Machine) (r : Record) where
       unfolding oneRecord
       a-reset k = simp (e, ne-eqb (r .kind) 8 n, eq-eqb (r .kind) 9 k, choices)
 
-      pub an-access : r .kind ≢ 9 → act x (accessOf r) (r .value) (targetOf b x r) ≡ oneRecord b x r
+      pub an-access : r .kind ≢ 9 → act x (accessOf r) (r .value) (settled (mapOf b (x .state)) (accessOf r) (r .value) (targetOf b x r)) ≡ oneRecord b x r
       unfolding oneRecord
       an-access k = simp (e, ne-eqb (r .kind) 8 n, ne-eqb (r .kind) 9 k, choices)
 
