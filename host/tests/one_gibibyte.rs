@@ -9,7 +9,9 @@ mod common;
 use common::compare::{range, undo, Lists};
 use common::guarded::{ends_of_tables, Guarded, Side, PAGE};
 use common::isolation::two_runs_on_zeros;
-use common::{blank_display, lists, ran, reached, refused, refused_at, seed, Coverage, Script, Watch, MIB};
+use common::{
+    blank_display, is_answered, lists, ran, reached, refused, refused_at, seed, Coverage, Script, Watch, MIB,
+};
 use mitrophel::faults::Faultless;
 use mitrophel::reference::{self, replay_with, Touch};
 use mitrophel::{call, record, replay, Answer, Board, Record, Target, WrongArgument, MOST_MEMORY};
@@ -593,6 +595,47 @@ fn the_last_word_may_map_its_own_page() {
     });
 }
 
+/// Request 9: with the lock set, "a table write whose stored word is valid, of type 00 or 11, and names a protected page
+/// gets new code 16". The TSEG is at the top of 1 GiB; bit 29 of a page counts, and no page is above memory.
+#[test]
+fn entries_of_protected_pages_are_refused_with_code_16_up_to_1_gib() {
+    // SMRAM, pages that are refused, pages that are stored.
+    let cases: [(u8, &[u32], &[u32]); 3] = [
+        // A0000h-BFFFFh and a TSEG of 1 MiB; 512 KiB are taken below it.
+        (
+            0xBE,
+            &[0xA_0000, 0xB_F000, 0x3FF0_0000, 0x3FFA_5000, 0x3FFF_F000],
+            &[0x9_F000, 0xC_0000, 0x70_0000, 0x1FF0_0000, 0x1FFF_F000, 0x200A_0000, 0x3FE8_0000, 0x3FEF_F000],
+        ),
+        // A TSEG of 512 KiB with general memory at A0000h.
+        (0x66, &[0x3FF8_0000, 0x3FFF_F000], &[0xA_0000, 0x78_0000, 0x1FF8_0000, 0x2000_0000, 0x3FF7_F000]),
+        // No TSEG.
+        (0x4E, &[0xA_0000, 0xB_F000], &[0x200A_0000, 0x3FF0_0000, 0x3FFF_F000]),
+    ];
+    on_memories(|memories| {
+        for (smram, closed, stored) in cases {
+            let mut script = graphics();
+            script.smram(smram);
+            let mut expected = Vec::new();
+            let first = script.records.len();
+            for bits in [0b001, 0b111] {
+                for page in closed {
+                    script.entry(5, page | bits);
+                    // Bits 31:30 are not stored.
+                    script.push(Record::write(Script::REGISTERS + word(5), 4, 0xC000_0000 | page | bits, true));
+                    expected.extend([refused(16); 2]);
+                }
+                for page in stored {
+                    script.entry(5, page | bits);
+                    script.register_read(word(5));
+                    expected.extend([mapped(word(5), 0), mapped(word(5), page | bits)]);
+                }
+            }
+            assert_eq!(memories.replay(&script)[first..], expected, "SMRAM {smram:X}h");
+        }
+    });
+}
+
 /// Tables and pages at the very ends of memory: the call touches nothing beside it.
 #[test]
 fn a_table_at_the_ends_of_memory_stays_inside_it() {
@@ -713,8 +756,9 @@ fn call_and_reference_agree_on_the_largest_memory() {
     assert_eq!(coverage.top.entries_above, 0, "code 7 of an entry");
     for (board, codes) in Board::ALL.into_iter().zip(coverage.codes) {
         for (code, &count) in codes.iter().enumerate() {
-            // Code 1 is the call's own result. Code 7 is a table word's in main memory, or an entry's of type 01.
-            let possible = code != 1 && (code != 7 || board.table_in_memory() || board.display_bytes() != 0);
+            // Code 7 is a table word's in main memory, or an entry's of type 01.
+            let above = board.table_in_memory() || board.display_bytes() != 0;
+            let possible = is_answered(code as u8) && (code != 7 || above);
             assert_eq!(count > 0, possible, "code {code}, board {board}");
         }
     }

@@ -30,6 +30,11 @@ pub const MIB: usize = 1 << 20;
 /// One more than the largest code.
 const CODES: usize = 17;
 
+/// Whether an answer can have this code: 1 is the call's own result.
+pub fn is_answered(code: u8) -> bool {
+    code == 0 || Refusal::from_code(code).is_some_and(|refusal| refusal != Refusal::Arguments)
+}
+
 /// splitmix64: small, seeded, and good enough to choose cases.
 #[derive(Clone)]
 pub struct Random(u64);
@@ -216,14 +221,12 @@ impl Coverage {
             .chain(self.forbidden.counts_mut())
     }
 
-    /// What each of the counts is of; none for what cannot be. Code 1 is the call's own result and is in no answer.
+    /// What each of the counts is of; none for what cannot be.
     fn names() -> Vec<Option<String>> {
         let mut names: Vec<_> = (0..10).map(|kind| Some(format!("kind {kind}"))).collect();
         names[0] = Some("no kind".to_string());
-        let answered =
-            |code| code == 0 || Refusal::from_code(code).is_some_and(|refusal| refusal != Refusal::Arguments);
         for board in Board::ALL {
-            let codes = (0..CODES as u8).map(|code| answered(code).then(|| format!("code {code}, board {board}")));
+            let codes = (0..CODES as u8).map(|code| is_answered(code).then(|| format!("code {code}, board {board}")));
             names.extend(codes);
         }
         names.extend((0..Target::ALL.len()).map(|target| Some(format!("target {target}"))));

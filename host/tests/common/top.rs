@@ -38,6 +38,11 @@ impl Met<'_> {
         self.word.is_some_and(|word| word.refusal.is_some())
     }
 
+    /// Whether it is a write of an entry with a page here that was refused with code 16.
+    fn forbidden(&self, pages: Range<u32>) -> bool {
+        self.answer.code == 16 && pages.contains(&(self.record.data & 0x3FFF_F000))
+    }
+
     /// Whether an entry's page in the TSEG was refused. A0000h-BFFFFh is open, so that it is no page there.
     fn page_in_tseg(&self) -> bool {
         self.answer.code == 6 && !self.word_refused() && !self.meets.compatible_protected
@@ -45,7 +50,7 @@ impl Met<'_> {
 }
 
 /// How many [`places`] there are.
-const PLACES: usize = 24;
+const PLACES: usize = 26;
 
 /// Each place, and whether the record met it.
 fn places(met: &Met) -> [(&'static str, bool); PLACES] {
@@ -85,6 +90,8 @@ fn places(met: &Met) -> [(&'static str, bool); PLACES] {
         ("fetch: memory from 512 MiB up", run && met.landed(OLD_TOP..tom)),
         ("fetch: last page of memory", run && met.landed(last_page)),
         ("fetch: page in the TSEG", run && met.page_in_tseg()),
+        ("table write refused with 16: page in the TSEG", met.forbidden(tseg..tom)),
+        ("table write refused with 16: last page of memory", met.forbidden(tom.saturating_sub(4096)..tom)),
     ]
 }
 
