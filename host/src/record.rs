@@ -484,7 +484,8 @@ pub enum Refusal {
     UnknownInstruction = 12,
     /// Record breaks the layout.
     Layout = 13,
-    /// With the lock set, a table write would store a valid entry of type 00 or 11 whose page is protected.
+    /// With the lock set, a table write would store a valid entry of type 00 or 11 whose page is protected. Nothing is
+    /// stored.
     ForbiddenEntry = 16,
 }
 

@@ -139,6 +139,18 @@ fn table_writes(name: &'static str, board: Board, random: &mut Random) -> Load {
     Load { name, unit: "record", board, memory: no_ops, records }
 }
 
+/// Valid entries for pages of all of memory on a locked board. A0000h-BFFFFh and the last 512 KiB are protected, a
+/// thirteenth of it, whose entries are refused.
+fn locked_table_writes(name: &'static str, board: Board, random: &mut Random) -> Load {
+    let mut records = setup(board, 0);
+    config(&mut records, 0, 0x70, 1, 0x6E);
+    for _ in 0..WORK {
+        let entry = random.below(MEMORY as u32) & !(PAGE - 1) | [0b001, 0b111][random.below(2) as usize];
+        records.push(register(0x1_0000 + 4 * random.below(16_384), entry));
+    }
+    Load { name, unit: "record", board, memory: no_ops, records }
+}
+
 fn configuration_writes(random: &mut Random) -> Load {
     // Plain registers of both devices, the window's base and the SMRAM register with graphics on.
     const REGISTERS: [(u32, u32, u8); 6] =
@@ -227,6 +239,8 @@ fn loads() -> Vec<Load> {
         runs("no-ops, budget 1, display cache", CACHED, no_ops, 1, count),
         runs("no-ops, whole ring, display cache", CACHED, no_ops, u32::MAX, 2),
         runs("mixed opcodes, whole ring, display cache", CACHED, mixed_opcodes, u32::MAX, 2),
+        locked_table_writes("table writes, locked", PRIVATE, random),
+        locked_table_writes("table writes, locked, table in memory", MAIN, random),
     ]
 }
 

@@ -200,3 +200,53 @@ impl<O: Observer, F: Faults> Gmch<'_, O, F> {
         }
     }
 }
+
+#[cfg(test)]
+mod tests {
+    use super::*;
+    use crate::reference::{TableWord, Touch, WordUse};
+
+    /// What the last record did with memory and with a table there.
+    #[derive(Default)]
+    struct Heard {
+        word: Option<TableWord>,
+        touches: Vec<Touch>,
+    }
+
+    impl Observer for Heard {
+        fn table_word(&mut self, word: TableWord) {
+            self.word = Some(word);
+        }
+
+        fn touched(&mut self, touch: Touch) {
+            self.touches.push(touch);
+        }
+    }
+
+    /// A write that is refused with code 16 touches no memory. Its word is told without a value and without a refusal of
+    /// its own, but for that of a word that is refused itself.
+    #[test]
+    fn a_forbidden_entry_is_told_by_a_word_that_has_neither_value_nor_refusal() {
+        let (mut memory, mut table) = (vec![0; 8 << 20], Box::new([0; TABLE_WORDS]));
+        let heard = Heard::default();
+        let mut hub = Gmch::observed(Board::I82810Main, &mut memory, &mut table, &mut [], heard).expect("a memory");
+        for (register, data) in [(0x70, 0x40), (0x814, 0xF000_0000), (0x804, 2), (0x70, 0x4E)] {
+            hub.answer(&Record::io_write(0xCF8, 4, 0x8000_0000 | register));
+            hub.answer(&Record::io_write(0xCFC, 4, data));
+        }
+        let code_7 = Some(Refusal::PageAboveMemory);
+        let told = |address, value, refusal| TableWord { number: 10, address, by: WordUse::Write, value, refusal };
+        for (base, entry, code, word) in [
+            (0x10_0000, 0x000A_0001, 16, told(0x10_0028, None, None)),
+            (0x10_0000, 0x000C_0001, 0, told(0x10_0028, Some(0x000C_0001), None)),
+            (0x80_0000, 0x000A_0001, 7, told(0x80_0028, None, code_7)),
+        ] {
+            hub.answer(&Record::write(0xF000_2020, 4, base, false));
+            *hub.observer() = Heard::default();
+            assert_eq!(hub.answer(&Record::write(0xF001_0028, 4, entry, false)).code, code);
+            let Heard { word: last, touches } = std::mem::take(hub.observer());
+            assert_eq!(last, Some(word));
+            assert_eq!(touches.len(), usize::from(code == 0));
+        }
+    }
+}
