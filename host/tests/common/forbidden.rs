@@ -10,7 +10,7 @@ const STORED: u32 = 0x3FFF_F007;
 
 /// Why a page is protected.
 #[derive(Clone, Copy, PartialEq, Eq)]
-enum Guard {
+enum Protection {
     CodeReadsOnly,
     ManagementOnly,
     Hseg,
@@ -18,28 +18,28 @@ enum Guard {
     Tseg1MiB,
 }
 
-impl Guard {
-    const ALL: [(Guard, &str); 5] = [
-        (Guard::CodeReadsOnly, "LSMM 10"),
-        (Guard::ManagementOnly, "LSMM 11"),
-        (Guard::Hseg, "HSEG"),
-        (Guard::Tseg512KiB, "TSEG of 512 KiB"),
-        (Guard::Tseg1MiB, "TSEG of 1 MiB"),
+impl Protection {
+    const ALL: [(Protection, &str); 5] = [
+        (Protection::CodeReadsOnly, "LSMM 10"),
+        (Protection::ManagementOnly, "LSMM 11"),
+        (Protection::Hseg, "HSEG"),
+        (Protection::Tseg512KiB, "TSEG of 512 KiB"),
+        (Protection::Tseg1MiB, "TSEG of 1 MiB"),
     ];
 
     /// "Protected: A0000h-BFFFFh if LSMM is 10 or 11, or HSEG acts; and the TSEG."
-    fn of(page: u32, meets: &Meets) -> Option<Guard> {
+    fn of(page: u32, meets: &Meets) -> Option<Protection> {
         let (usmm, lsmm) = (meets.smram >> 4 & 3, meets.smram >> 2 & 3);
         match page {
             0xA_0000..=0xB_FFFF => match (lsmm, usmm) {
-                (2, _) => Some(Guard::CodeReadsOnly),
-                (3, _) => Some(Guard::ManagementOnly),
-                (0, 1..) => Some(Guard::Hseg),
+                (2, _) => Some(Protection::CodeReadsOnly),
+                (3, _) => Some(Protection::ManagementOnly),
+                (0, 1..) => Some(Protection::Hseg),
                 _ => None,
             },
             _ if !(meets.tseg..meets.tom).contains(&page) => None,
-            _ if usmm == 2 => Some(Guard::Tseg512KiB),
-            _ => Some(Guard::Tseg1MiB),
+            _ if usmm == 2 => Some(Protection::Tseg512KiB),
+            _ => Some(Protection::Tseg1MiB),
         }
     }
 }
@@ -88,8 +88,8 @@ impl Met<'_> {
         page_of(self.word())
     }
 
-    fn guard(&self) -> Option<Guard> {
-        Guard::of(self.page(), self.meets)
+    fn protection(&self) -> Option<Protection> {
+        Protection::of(self.page(), self.meets)
     }
 
     /// Whether that page is of A0000h-BFFFFh.
@@ -108,7 +108,7 @@ impl Met<'_> {
 
     /// Whether a word is forbidden as SMRAM stands.
     fn forbids(&self, word: u32) -> bool {
-        self.locked() && Met::of_main_memory(word) && Guard::of(page_of(word), self.meets).is_some()
+        self.locked() && Met::of_main_memory(word) && Protection::of(page_of(word), self.meets).is_some()
     }
 
     /// A table write that is refused with code 16.
@@ -118,18 +118,22 @@ impl Met<'_> {
 
     /// A table write with the lock set that is answered, although its page is protected.
     fn harmless(&self, bits: u32) -> bool {
-        self.writes(&[4]) && self.locked() && self.answer.code == 0 && self.guard().is_some() && self.word() & 7 == bits
+        self.writes(&[4])
+            && self.locked()
+            && self.answer.code == 0
+            && self.protection().is_some()
+            && self.word() & 7 == bits
     }
 
     /// One of a valid entry of type 00 or 11, whose page is not.
     fn allowed(&self) -> bool {
-        let good = Met::of_main_memory(self.word()) && self.guard().is_none();
+        let good = Met::of_main_memory(self.word()) && self.protection().is_none();
         self.writes(&[4]) && self.locked() && self.answer.code == 0 && good
     }
 
-    /// One that would be refused if the lock were set.
-    fn too_early(&self, memory_type: u32) -> bool {
-        let bad = self.word() & 7 == memory_type << 1 | 1 && self.guard().is_some();
+    /// One that is answered, and would be refused if the lock were set.
+    fn early(&self) -> bool {
+        let bad = Met::of_main_memory(self.word()) && self.protection().is_some();
         self.writes(&[4]) && !self.locked() && self.answer.code == 0 && bad
     }
 
@@ -231,11 +235,7 @@ const FACTS: &[Fact] = &[
     ("stored, locked: ordinary page", On::All, |met| {
         met.allowed() && (0x10_0000..met.meets.usable_top).contains(&met.page())
     }),
-    ("stored before the lock: A0000h-BFFFFh, type 00", On::All, |met| met.too_early(0) && met.compatible()),
-    ("stored before the lock: A0000h-BFFFFh, type 11", On::All, |met| met.too_early(3) && met.compatible()),
-    ("stored before the lock: TSEG, type 00", On::All, |met| met.too_early(0) && !met.compatible()),
-    ("stored before the lock: TSEG, type 11", On::All, |met| met.too_early(3) && !met.compatible()),
-    ("stored after a reset of a locked board", On::All, |met| met.reopened && (met.too_early(0) || met.too_early(3))),
+    ("stored after a reset of a locked board", On::All, |met| met.reopened && met.early()),
     ("code 10 first: the data as it is", On::All, |met| met.preceded(&[1, 2], 10)),
     ("code 10 first: the bytes there", On::All, |met| {
         let narrow = met.writes(&[1, 2]) && met.answer.code == 10;
@@ -263,64 +263,80 @@ const FACTS: &[Fact] = &[
 const TYPES: [(u32, &str); 2] = [(0, "00"), (3, "11")];
 const MODES: [&str; 2] = ["", ", management mode"];
 
-/// How often each fact was the case on each board, and how often a write was refused with code 16 by type, by why its
-/// page is protected, and by mode.
+/// How often a valid entry of type 00 or 11 whose page is protected was written, by type, by what protects it and by mode.
+type Writes = [[[u64; MODES.len()]; Protection::ALL.len()]; TYPES.len()];
+
+/// On each board, how often such an entry was refused with code 16 and how often it was stored before the lock, and how
+/// often each fact was the case.
 #[derive(Clone)]
 pub struct Forbidden {
-    refused: [[[[u64; MODES.len()]; Guard::ALL.len()]; TYPES.len()]; Board::ALL.len()],
+    refused: [Writes; Board::ALL.len()],
+    early: [Writes; Board::ALL.len()],
     facts: [[u64; FACTS.len()]; Board::ALL.len()],
 }
 
-// An array of so many has none of its own.
+// An array of so many facts has no default of its own.
 impl Default for Forbidden {
     fn default() -> Forbidden {
-        Forbidden { refused: Default::default(), facts: [[0; FACTS.len()]; Board::ALL.len()] }
+        let (refused, early) = Default::default();
+        Forbidden { refused, early, facts: [[0; FACTS.len()]; Board::ALL.len()] }
     }
+}
+
+/// The count of a write.
+fn count<'a>(writes: &'a mut Writes, met: &Met) -> &'a mut u64 {
+    let memory_type = TYPES.iter().position(|(number, _)| met.word() & 7 == number << 1 | 1);
+    let protection =
+        met.protection().and_then(|protection| Protection::ALL.iter().position(|(other, _)| *other == protection));
+    let (memory_type, protection) = memory_type.zip(protection).expect("code 16 is given to nothing else");
+    &mut writes[memory_type][protection][usize::from(met.record.is_management())]
 }
 
 impl Forbidden {
     pub fn note(&mut self, board: usize, met: &Met) {
+        if met.refused() {
+            *count(&mut self.refused[board], met) += 1;
+        }
+        if met.early() {
+            *count(&mut self.early[board], met) += 1;
+        }
         for (count, (_, _, holds)) in self.facts[board].iter_mut().zip(FACTS) {
             *count += u64::from(holds(met));
-        }
-        if met.refused() {
-            let mode = usize::from(met.record.is_management());
-            let guard = met.guard().and_then(|guard| Guard::ALL.iter().position(|(other, _)| *other == guard));
-            let memory_type = TYPES.iter().position(|(number, _)| met.word() & 7 == number << 1 | 1);
-            let (guard, memory_type) = guard.zip(memory_type).expect("code 16 is given to nothing else");
-            self.refused[board][memory_type][guard][mode] += 1;
         }
     }
 
     /// How many table writes were refused with code 16 on each board.
     pub fn refused(&self) -> [u64; Board::ALL.len()] {
-        [0, 1, 2, 3].map(|board| self.refused[board].iter().flatten().flatten().sum())
+        self.refused.map(|writes| writes.iter().flatten().flatten().sum())
     }
 
     pub fn counts(&self) -> impl Iterator<Item = &u64> {
-        self.refused.iter().flatten().flatten().flatten().chain(self.facts.iter().flatten())
+        let writes = self.refused.iter().chain(&self.early).flatten().flatten().flatten();
+        writes.chain(self.facts.iter().flatten())
     }
 
     pub fn counts_mut(&mut self) -> impl Iterator<Item = &mut u64> {
-        self.refused.iter_mut().flatten().flatten().flatten().chain(self.facts.iter_mut().flatten())
+        let writes = self.refused.iter_mut().chain(&mut self.early).flatten().flatten().flatten();
+        writes.chain(self.facts.iter_mut().flatten())
     }
 
     /// What each of the counts is of; none for what cannot be on its board.
     pub fn names() -> Vec<Option<String>> {
         let mut names = Vec::new();
-        for board in Board::ALL {
-            for (_, memory_type) in TYPES {
-                for (_, guard) in Guard::ALL {
-                    let refused = format!("entry refused with 16: type {memory_type}, {guard}");
-                    names.extend(MODES.map(|mode| Some(format!("{refused}{mode}, board {board}"))));
+        for outcome in ["refused with 16", "stored before the lock"] {
+            for board in Board::ALL {
+                for (_, memory_type) in TYPES {
+                    for (_, protection) in Protection::ALL {
+                        let write = format!("entry {outcome}: type {memory_type}, {protection}");
+                        names.extend(MODES.map(|mode| Some(format!("{write}{mode}, board {board}"))));
+                    }
                 }
             }
         }
         for board in Board::ALL {
+            let facts = FACTS.iter().map(|(name, on, _)| (name, on.has(board)));
             names.extend(
-                FACTS
-                    .iter()
-                    .map(|(name, on, _)| on.has(board).then(|| format!("forbidden entry: {name}, board {board}"))),
+                facts.map(|(name, possible)| possible.then(|| format!("forbidden entry: {name}, board {board}"))),
             );
         }
         names

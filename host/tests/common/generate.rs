@@ -202,7 +202,7 @@ impl<'m> Generator<'m> {
             return self.move_table();
         }
         if self.hub.smram().locked() && self.random.one_in(12) {
-            return self.write_guarded();
+            return self.write_near_protected();
         }
         match self.random.below(70) {
             0..=8 => self.access_window(),
@@ -766,7 +766,7 @@ impl<'m> Generator<'m> {
     // Entries that a locked board does not store --------------------------------------------------
 
     /// An entry of protected memory or of a page beside it, with any bits that its register does not store.
-    fn guarded_entry(&mut self) -> u32 {
+    fn entry_near_protected(&mut self) -> u32 {
         let protected: Vec<_> = self.hub.protected_ranges().collect();
         let within = match protected.len() as u32 {
             0 => 0xA_0000..0xC_0000,
@@ -788,13 +788,13 @@ impl<'m> Generator<'m> {
     }
 
     /// Writes such an entry in one of the ways there are, and looks what became of it.
-    fn write_guarded(&mut self) {
+    fn write_near_protected(&mut self) {
         let number = match self.random.below(4) {
             0 => self.random.below(TABLE_WORDS as u32),
             _ => self.window_page() % TABLE_WORDS as u32,
         };
         let register = 0x1_0000 + 4 * number;
-        let entry = self.guarded_entry();
+        let entry = self.entry_near_protected();
         match self.random.below(10) {
             // A part of the register, with the whole entry as data or with the byte that makes it valid.
             0 => {
@@ -818,10 +818,7 @@ impl<'m> Generator<'m> {
                 self.register_write(0x2020, 4, before);
             }
             4 | 5 => self.store_entry(number, entry),
-            _ => {
-                let management = self.random.one_in(3);
-                self.emit(Record::write(self.hub.registers_base().wrapping_add(register), 4, entry, management));
-            }
+            _ => self.write_in_either_mode(number, entry),
         }
         if !self.random.one_in(4) {
             self.register_read(register);
@@ -838,6 +835,12 @@ impl<'m> Generator<'m> {
         }
     }
 
+    fn write_in_either_mode(&mut self, number: u32, entry: u32) {
+        let register = self.hub.registers_base().wrapping_add(0x1_0000 + 4 * number);
+        let management = self.random.one_in(3);
+        self.emit(Record::write(register, 4, entry, management));
+    }
+
     /// Entries of what is protected are stored, then the lock is set, and the entries are used and written again.
     fn lock_over_entries(&mut self) {
         if !self.reaches_registers() {
@@ -848,9 +851,9 @@ impl<'m> Generator<'m> {
             self.set_smram(smram);
         }
         let numbers: Vec<u32> = (0..3).map(|_| self.window_page() % TABLE_WORDS as u32).collect();
-        let entries: Vec<u32> = numbers.iter().map(|_| self.guarded_entry()).collect();
+        let entries: Vec<u32> = numbers.iter().map(|_| self.entry_near_protected()).collect();
         for (&number, &entry) in numbers.iter().zip(&entries) {
-            self.register_write(0x1_0000 + 4 * number, 4, entry);
+            self.write_in_either_mode(number, entry);
         }
         let smram = self.hub.smram().0;
         self.set_smram(smram | 0x02);
@@ -864,7 +867,7 @@ impl<'m> Generator<'m> {
             self.register_write(0x1_0000 + 4 * number, 4, entry);
         }
         for _ in 0..4 {
-            self.write_guarded();
+            self.write_near_protected();
         }
     }
 
