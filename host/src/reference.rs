@@ -428,6 +428,9 @@ impl<'m, O: Observer, F: Faults> Gmch<'m, O, F> {
             width: u32::from(record.width),
             data: kind.is_write().then_some(record.data),
         };
+        if self.refuses_ordinary_write(kind, access) {
+            return Err(Refusal::ForbiddenEntry.into());
+        }
         let management = record.is_management();
         match kind {
             Kind::IoRead | Kind::IoWrite => Ok(self.port(access)),

@@ -6,7 +6,7 @@ use super::window::entry_page;
 use super::{Access, Gmch, Lsmm, Observer, MIB, TABLE_WORDS};
 use crate::board::Board;
 use crate::faults::{Fault, Faults};
-use crate::record::{Answer, Record, Refusal, Target};
+use crate::record::{Answer, Kind, Record, Refusal, Target};
 
 const PAGE: u32 = 4096;
 
@@ -117,9 +117,13 @@ impl<O: Observer, F: Faults> Gmch<'_, O, F> {
         self.forbids_entry(word) && !stored
     }
 
-    /// What a refused table write stores all the same: "changes nothing", but in wrong references.
+    /// What a refused table write stores all the same, perhaps with the error bit set: "changes nothing", but in wrong
+    /// references.
     #[inline]
-    pub(super) fn stored_although_refused(&self, data: u32) -> Option<u32> {
+    pub(super) fn stored_although_refused(&mut self, data: u32) -> Option<u32> {
+        if self.wrong(Fault::ForbiddenSetsError) {
+            self.set_error(Access { address: 0, width: 4, data: Some(data) });
+        }
         let lands = match self.table_in_memory() {
             true => self.wrong(Fault::ForbiddenWordLands),
             false => self.wrong(Fault::ForbiddenEntryLands),
@@ -163,18 +167,24 @@ impl<O: Observer, F: Faults> Gmch<'_, O, F> {
         self.table_word(number).is_ok_and(|held| self.forbids_entry(held & !touched | written))
     }
 
-    /// Whether a reference with this fault refuses a write that is no register access and lands on a table word: "Ordinary
-    /// writes may change them, so Item 9's refusal is no longer a guarantee there; the check at use is."
+    /// Whether a wrong reference refuses a write to main memory, before it is routed: "Ordinary writes may change them, so
+    /// Item 9's refusal is no longer a guarantee there; the check at use is."
     #[inline]
-    pub(super) fn refuses_ordinary_write(&self, fault: Fault, address: u32, access: Access) -> bool {
-        let word_there = || {
-            let numbers = self.table_word_address(0).map(|base| base..base + 4 * TABLE_WORDS as u64);
-            numbers.is_some_and(|words| words.contains(&u64::from(address)))
+    pub(super) fn refuses_ordinary_write(&self, kind: Kind, access: Access) -> bool {
+        let refuses = match kind {
+            Kind::Write => self.wrong(Fault::OrdinaryWriteForbidden),
+            Kind::MasterWrite => self.wrong(Fault::MasterWriteForbidden),
+            _ => false,
         };
-        self.wrong(fault)
-            && access.width == 4
-            && word_there()
-            && access.data.is_some_and(|data| self.forbids_entry(data))
+        let by_rules_1_and_4 = || !matches!(access.address, 0xA_0000..=0xF_FFFF) && access.address < self.usable_top();
+        refuses && by_rules_1_and_4() && self.makes_forbidden_word(access.address, access)
+    }
+
+    /// Whether a write of four bytes that lands here makes a forbidden entry of a table word. Only wrong references ask.
+    pub(super) fn makes_forbidden_word(&self, address: u32, access: Access) -> bool {
+        let words = self.table_word_address(0).map(|base| base..base + 4 * TABLE_WORDS as u64);
+        let there = words.is_some_and(|words| words.contains(&u64::from(address)));
+        there && access.width == 4 && access.data.is_some_and(|data| self.forbids_entry(data))
     }
 
     /// Zeroes the entries of the private table that may not be stored any more ([`Fault::LockDropsEntries`]).

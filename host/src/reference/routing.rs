@@ -38,14 +38,7 @@ impl<O: Observer, F: Faults> Gmch<'_, O, F> {
             Mode::Master => self.route_master(access.address),
         };
         self.observer.routed(rule);
-        let ordinary = match mode {
-            Mode::Processor { .. } => Fault::OrdinaryWriteForbidden,
-            Mode::Master => Fault::MasterWriteForbidden,
-        };
         match route {
-            Route::Memory(address) if self.refuses_ordinary_write(ordinary, address, access) => {
-                Err(Refusal::ForbiddenEntry.into())
-            }
             Route::Memory(address) => Ok(self.memory_access(address, access)),
             Route::Hub => Ok(reached(Target::Hub, access.address, 0)),
             Route::HubWithError => {
@@ -54,8 +47,7 @@ impl<O: Observer, F: Faults> Gmch<'_, O, F> {
             }
             Route::Vga(offset) => Ok(reached(Target::Vga, offset, 0)),
             Route::Registers(offset) => {
-                let result = self.register_access(offset, access, mode);
-                result.map_err(|refusal| self.refused_register(refusal, offset, access))
+                self.register_access(offset, access, mode).map_err(|refusal| self.refused_register(refusal, offset))
             }
             Route::Window(offset) => self.window_access(offset, access, mode),
         }
@@ -63,15 +55,10 @@ impl<O: Observer, F: Faults> Gmch<'_, O, F> {
 
     /// A refused register access: "01's sentence that all else is zero is amended for these alone", the window's.
     #[inline]
-    fn refused_register(&mut self, refusal: Refusal, offset: u32, access: Access) -> Refused {
+    fn refused_register(&self, refusal: Refusal, offset: u32) -> Refused {
         let shown = match refusal {
             Refusal::NotExactlyRegister => self.wrong(Fault::Code10ShowsOffset),
-            Refusal::ForbiddenEntry => {
-                if self.wrong(Fault::ForbiddenSetsError) {
-                    self.set_error(access);
-                }
-                self.wrong(Fault::Code16ShowsOffset)
-            }
+            Refusal::ForbiddenEntry => self.wrong(Fault::Code16ShowsOffset),
             _ => self.wrong(Fault::RegisterWordShowsOffset),
         };
         Refused { refusal, offset: if shown { offset } else { 0 } }

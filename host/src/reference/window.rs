@@ -110,7 +110,9 @@ impl<O: Observer, F: Faults> Gmch<'_, O, F> {
             result => result?,
         };
         Ok(match place {
-            Place::Memory(address) if self.refuses_ordinary_write(Fault::WindowWriteForbidden, address, access) => {
+            Place::Memory(address)
+                if self.wrong(Fault::WindowWriteForbidden) && self.makes_forbidden_word(address, access) =>
+            {
                 return Err(Refused { refusal: Refusal::ForbiddenEntry, offset });
             }
             Place::Memory(address) => self.memory_access(address, access),
