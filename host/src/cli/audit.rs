@@ -21,7 +21,6 @@ use std::ffi::OsString;
 use std::io::{self, Write};
 use std::mem;
 use std::num::NonZero;
-use std::ops::RangeInclusive;
 use std::sync::atomic::{AtomicUsize, Ordering};
 use std::sync::mpsc::{self, Receiver, Sender};
 use std::sync::{Mutex, MutexGuard, PoisonError};
@@ -110,9 +109,10 @@ impl Audit {
 
     /// Why a record was refused, as far as its answer tells.
     fn reason(&self, record: &Record, answer: &Answer, refusal: Refusal) -> String {
-        match names::refused_offset(record, answer) {
-            Some(offset) => names::refusal_reason_at(refusal, self.board, offset),
-            None => names::refusal_reason(refusal, Some(self.board)).to_string(),
+        match (names::refused_offset(record, answer), names::forbidden_entry(record, answer)) {
+            (Some(offset), _) => names::refusal_reason_at(refusal, self.board, offset),
+            (None, Some(entry)) => names::forbidden_reason(entry, "a protected page"),
+            (None, None) => names::refusal_reason(refusal, Some(self.board)).to_string(),
         }
     }
 
@@ -199,8 +199,8 @@ impl Night<'_> {
                 tally.count(&answer);
                 let (Some(refusal), Some(record)) = (answer.refusal(), records_read.get(at)) else { continue };
                 let record = Record::from_bytes(record);
-                if let Some(offset) = names::refused_offset(&record, &answer) {
-                    tally.entries.count(answer.code, offset);
+                if let Some(entry) = names::refused_entry(&record, &answer) {
+                    tally.entries.count(answer.code, entry);
                 }
                 if audit.deny.contains(&refusal) {
                     let reason = || audit.reason(&record, &answer, refusal);
@@ -494,7 +494,7 @@ impl Tally {
         Ok(())
     }
 
-    /// Of each code the entry at which most accesses through the window were refused.
+    /// Of each code the entry at which most accesses were refused.
     fn print_entries(&self, out: &mut impl Write, style: Style) -> io::Result<()> {
         if self.entries.counts.is_empty() {
             return Ok(());
@@ -510,10 +510,16 @@ impl Tally {
     }
 }
 
-/// The codes that an access through the window gets for its table entry.
-const BY_ENTRY: RangeInclusive<u8> = Refusal::EntryNotValid.code()..=Refusal::PageAboveMemory.code();
+/// The codes that an access through the window gets for its table entry, and the one that a write of an entry gets.
+const BY_ENTRY: [u8; 5] = [
+    Refusal::EntryNotValid.code(),
+    Refusal::EntryType.code(),
+    Refusal::PageProtected.code(),
+    Refusal::PageAboveMemory.code(),
+    Refusal::ForbiddenEntry.code(),
+];
 
-/// How many accesses through the window were refused for their table entry.
+/// How many accesses were refused for a table entry.
 #[derive(Default)]
 struct Entries {
     /// For each of [`BY_ENTRY`] a count for each entry, one row after the other; empty while all are 0.
@@ -523,15 +529,15 @@ struct Entries {
 impl Entries {
     /// Where the row of a code begins.
     fn row(code: u8) -> Option<usize> {
-        BY_ENTRY.contains(&code).then(|| usize::from(code - BY_ENTRY.start()) * TABLE_WORDS)
+        BY_ENTRY.iter().position(|own| *own == code).map(|row| row * TABLE_WORDS)
     }
 
-    /// Counts a refusal at this window offset, if its code is one of [`BY_ENTRY`].
-    fn count(&mut self, code: u8, offset: u32) {
-        let entry = offset as usize / 4096;
+    /// Counts a refusal at this entry, if its code is one of [`BY_ENTRY`].
+    fn count(&mut self, code: u8, entry: u32) {
+        let entry = entry as usize;
         let Some(row) = Entries::row(code).filter(|_| entry < TABLE_WORDS) else { return };
         if self.counts.is_empty() {
-            self.counts = vec![0; BY_ENTRY.count() * TABLE_WORDS];
+            self.counts = vec![0; BY_ENTRY.len() * TABLE_WORDS];
         }
         self.counts[row + entry] += 1;
     }
@@ -613,17 +619,18 @@ mod tests {
     fn entries_are_counted_by_code_and_file() {
         let counted = |refusals: &[(u8, u32)]| {
             let mut entries = Entries::default();
-            refusals.iter().for_each(|&(code, offset)| entries.count(code, offset));
+            refusals.iter().for_each(|&(code, offset)| entries.count(code, offset / 4096));
             entries
         };
         let none = counted(&[(3, 0), (8, 0), (9, 0), (4, 64 << 20), (7, u32::MAX)]);
         assert!(none.counts.is_empty());
-        let first = counted(&[(4, 0x3FF_FFFF), (4, 0x5ABC), (4, 0x3FF_F000), (7, 0)]);
+        let first = counted(&[(4, 0x3FF_FFFF), (4, 0x5ABC), (4, 0x3FF_F000), (7, 0), (16, 0xA000)]);
         let second = counted(&[(4, 0x5000), (4, 0x5FFF), (6, 0x1000)]);
         let mut total = Entries::default();
         [&none, &first, &none, &second, &first].iter().for_each(|own| total.add(own));
         assert_eq!((first.most(4), second.most(4), total.most(4)), (Some((16383, 2)), Some((5, 2)), Some((5, 4))));
         assert_eq!([3, 5, 6, 7, 8].map(|code| total.most(code)), [None, None, Some((1, 1)), Some((0, 2)), None]);
+        assert_eq!([13, 14, 16].map(|code| total.most(code)), [None, None, Some((10, 2))]);
     }
 
     /// A call that takes one board alone.

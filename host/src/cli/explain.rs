@@ -17,13 +17,14 @@ const ARGUMENTS: &str = "arguments";
 
 /// The order in which the codes are looked at: "13, 2, then routing; then 10, or 9, 3, 4, 5, 7, 6. For the
 /// parser: 11, then empty check, then 8, 3, 4, 5, 7, 6, 12." Where the table is in main memory, a word of it gives 7 or 6
-/// "after code 3 for a lookup and after code 10 for a register access, 7 first" (request 10 of document 02).
+/// "after code 3 for a lookup and after code 10 for a register access, 7 first, then Item 9's 16" (request 10 of document
+/// 02); where it is private, 16 "comes after code 10" (request 9).
 const ORDERS: [(&str, &[u8]); 7] = [
-    ("at a memory-mapped register", &[13, 2, 10]),
+    ("at a memory-mapped register", &[13, 2, 10, 16]),
     (WINDOW, &[13, 2, 9, 3, 4, 5, 7, 6]),
     ("any other access", &[13, 2]),
     (PARSER, &[13, 11, 8, 3, 4, 5, 7, 6, 12]),
-    ("table in memory: register", &[13, 2, 10, 7, 6]),
+    ("table in memory: register", &[13, 2, 10, 7, 6, 16]),
     ("table in memory: window", &[13, 2, 9, 3, 7, 6, 4, 5, 7, 6]),
     ("table in memory: parser run", &[13, 11, 8, 3, 7, 6, 4, 5, 7, 6, 12]),
 ];
@@ -75,7 +76,7 @@ const fn in_display(start: &'static str, own: &'static str) -> Example {
     Example { board: Board::Dc100, note: "# The same on a board with a display cache.\n", start, own }
 }
 
-const CODES: [Code; 13] = [
+const CODES: [Code; 14] = [
     Code {
         refusal: Refusal::Arguments,
         when: "The call's own result: board kind not 0 to 3; memory no multiple of 8 MiB from 8 to 1,024 MiB; records \
@@ -127,10 +128,11 @@ const CODES: [Code; 13] = [
         refusal: Refusal::PageProtected,
         when: "The table entry names a page of protected memory: A0000h-BFFFFh if SMRAM's LSMM (bits 3:2) is 10 or 11, \
                or if HSEG acts; and the TSEG. Locked or not, and in management mode too. Somebody has aimed the window \
-               or the ring at the key. Where the table is in main memory (boards 82810-main and dc100-main), also: the \
-               entry's own word, at PGTBL_CTL's bits 31:12 + 4 x entry, lies in protected memory. An access to the \
-               entry's register is then refused, too. The display cache, which entries of type 01 name pages of, is \
-               never protected.",
+               or the ring at the key. Once SMRAM is locked, storing such an entry is refused already, with 16; the \
+               check when it is used remains, whoever put it there. Where the table is in main memory (boards \
+               82810-main and dc100-main), also: the entry's own word, at PGTBL_CTL's bits 31:12 + 4 x entry, lies in \
+               protected memory. An access to the entry's register is then refused, too. The display cache, which \
+               entries of type 01 name pages of, is never protected.",
         examples: &[
             example(DESK, "write PGTBL_CTL 1\nentry 1 A0000h\nread4 WINDOW+1000h\n"),
             in_memory(DESK, "write PGTBL_CTL A0001h\nread4 WINDOW+1000h  # the word at A0004h\n"),
@@ -214,6 +216,28 @@ const CODES: [Code; 13] = [
                65,535. The list is damaged, or is no list of records.",
         examples: &[example("", "raw 01 04 00 00 00 00 01 00 00 00 00 00 00 00 00 00  # port 10000h\n")],
     },
+    Code {
+        refusal: Refusal::ForbiddenEntry,
+        when: "SMRAM's lock, bit 1, is set, and a write of a table entry would store a word, its data AND 3FFFF007h, \
+               that is valid (bit 0), of main memory (bits 2:1 are 00 or 11) and names a protected page (see 6). In \
+               management mode too, and with translation on or off. Somebody aims the window or the ring at the key. \
+               Which entry it was, the record tells: (its address - MMADR - 10000h) / 4. Any other word is stored: one \
+               that is not valid, of type 01 or 10, of a page at or above the top of memory, or of one that is not \
+               protected. An entry of a protected page that is there from before the lock stays there and is refused \
+               when it is used, with 6. Where the table is in main memory (boards 82810-main and dc100-main), an \
+               ordinary write of its word is not refused, so such an entry may come there after the lock, too; it is \
+               refused when it is used all the same.",
+        examples: &[
+            example(DESK, "config write dev0.SMRAM 4Eh  # locked\nentry 1 100000h              # stored\nentry 1 A0000h\n"),
+            in_memory(
+                DESK,
+                "write PGTBL_CTL 200001h\n\
+                 config write dev0.SMRAM 4Eh  # locked\n\
+                 write4 200004h A0001h        # an ordinary write of the word\n\
+                 entry 1 A0000h\n",
+            ),
+        ],
+    },
 ];
 
 /// `mitrophel explain`
@@ -222,7 +246,9 @@ pub fn run(words: &[OsString]) -> Result<Status, Failure> {
         [] => say(&list()),
         [word] => match named(&word.to_string_lossy()) {
             Some(code) => say(&code.text()),
-            None => Err(usage(&format!("expected a code, 1 to 13 or {}, found '{}'", names().join(", "), shown(word)))),
+            None => {
+                Err(usage(&format!("expected a code, 1 to 13, 16 or {}, found '{}'", names().join(", "), shown(word))))
+            }
         },
         _ => Err(usage("expected one code")),
     }
@@ -383,7 +409,7 @@ mod tests {
             let boards: Vec<Board> = code.examples.iter().map(|example| example.board).collect();
             match code.refusal {
                 Refusal::Arguments => assert_eq!(boards, []),
-                Refusal::PageProtected => assert_eq!(boards, [PLAIN, Board::I82810Main]),
+                Refusal::PageProtected | Refusal::ForbiddenEntry => assert_eq!(boards, [PLAIN, Board::I82810Main]),
                 Refusal::PageAboveMemory => assert_eq!(boards, [PLAIN, Board::I82810Main, Board::Dc100]),
                 Refusal::EntryType | Refusal::NotExactlyRegister => assert_eq!(boards, [PLAIN, Board::Dc100]),
                 _ => assert_eq!(boards, [PLAIN]),

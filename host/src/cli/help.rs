@@ -52,10 +52,11 @@ Usage: mitrophel replay [OPTION].. FILE
 Replay the records of FILE from a cold start, by the proved call, and print
 each with its answer: what was accessed, where it went, by which rule, or the
 refusal and why. An access that is refused in the window is told with the table
-entry and the window offset, which the answer's address field holds. A write
-that brings power state 01 or 10 to dev1.PM_CS leaves the state as it was, and
-is told with 'discarded'. FILE is a text trace or the binary form, told apart
-by its content; '-' is standard input.
+entry and the window offset, which the answer's address field holds; a write of
+an entry of a protected page, refused once SMRAM is locked, with entry and page
+as the record has them. A write that brings power state 01 or 10 to dev1.PM_CS
+leaves the state as it was, and is told with 'discarded'. FILE is a text trace
+or the binary form, told apart by its content; '-' is standard input.
 
   --check           compare the answers with what the trace expects, '#> ..'
                     beside or below a line; exit with 1 if one differs
@@ -178,7 +179,8 @@ const STATE: &str = "\
 Usage: mitrophel state [OPTION].. FILE
 Replay the records of FILE from a cold start and show what they leave: the
 registers by name with their fields in words, the valid entries of the
-translation table, the ring's words from head to tail, configuration space.
+translation table and, once SMRAM is locked, how many of them name protected
+pages, the ring's words from head to tail, configuration space.
 Words of memory that is protected at some time are '\u{B7}\u{B7}', those of a table
 in main memory too. FILE is a text trace or the binary form, told apart by its
 content; '-' is standard input.
@@ -225,9 +227,9 @@ Without FILE:
 
 It is found by asking the proved call: a read by each of the first three, and
 a read through the window where an entry names a page of a board with the same
-SMRAM, but graphics on; protected is what that read is refused 6 for. The rule
-numbers, and with them what sets the error bit, come from the reference, whose
-answers are the same.
+SMRAM, but graphics on and no lock; protected is what that read is refused 6
+for. The rule numbers, and with them what sets the error bit, come from the
+reference, whose answers are the same.
 
 Example:
   mitrophel map --smram BEh --window C0000000h --svg map.svg
@@ -237,10 +239,10 @@ const AUDIT: &str = "\
 Usage: mitrophel audit [OPTION].. FILE..
 The night audit: replay every FILE ('-': standard input), call after call, each
 on fresh memory, and print how often each code and each target was answered,
-and for codes 4 to 7 at which table entry most accesses through the window were
-refused. A list of more than 65,535 records is cut in front of reset records,
-as 'mitrophel replay --help' says. A bar shows the progress if standard error
-is a terminal.
+for codes 4 to 7 at which table entry most accesses through the window were
+refused, and for 16 at which most writes of an entry were. A list of more than
+65,535 records is cut in front of reset records, as 'mitrophel replay --help'
+says. A bar shows the progress if standard error is a terminal.
 
   --deny KIND       exit with status 1 if a refusal of this kind was seen;
                     several with commas, or by giving the option again
@@ -258,14 +260,14 @@ is a terminal.
 
 Kinds, by number or name: 2 width, 3 translation-off, 4 not-valid, 5 type,
 6 protected, 7 above-memory, 8 outside-window, 9 fence, 10 not-exact, 11 ring,
-12 instruction, 13 layout; 'all' is every kind.
+12 instruction, 13 layout, 16 forbidden; 'all' is every kind.
 
 A FILE that cannot be read or is malformed is told and left out of the count;
 the others are replayed, and the exit status is 3 or 4 unless a denied refusal
 was seen.
 
 Example:
-  mitrophel audit --deny protected,layout night/*.rec
+  mitrophel audit --deny protected,forbidden,layout night/*.rec
 ";
 
 const COMPARE: &str = "\
@@ -318,8 +320,9 @@ Example:
 const EXPLAIN: &str = "\
 Usage: mitrophel explain [CODE]
 Tell when an access is refused with CODE, which codes are looked at before it,
-what the answer holds, and a trace that gets it. CODE is a number from 1 to 13
-or a short name, as in 'mitrophel audit --help'. Without CODE, list all codes.
+what the answer holds, and a trace that gets it. CODE is a number, 1 to 13 or
+16, or a short name, as in 'mitrophel audit --help'. Without CODE, list all
+codes.
 
 Example:
   mitrophel explain protected

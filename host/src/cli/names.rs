@@ -4,7 +4,7 @@ pub use mitrophel::trace::names::*;
 use mitrophel::{Answer, Board, Kind, Record, Refusal};
 
 /// The refusals that an answer can hold, each with the short name that `--deny` takes.
-pub const REFUSALS: [(Refusal, &str); 12] = [
+pub const REFUSALS: [(Refusal, &str); 13] = [
     (Refusal::Width, "width"),
     (Refusal::TranslationOff, "translation-off"),
     (Refusal::EntryNotValid, "not-valid"),
@@ -17,6 +17,7 @@ pub const REFUSALS: [(Refusal, &str); 12] = [
     (Refusal::RingOffset, "ring"),
     (Refusal::UnknownInstruction, "instruction"),
     (Refusal::Layout, "layout"),
+    (Refusal::ForbiddenEntry, "forbidden"),
 ];
 
 /// The short name of a refusal that an answer can hold.
@@ -89,6 +90,24 @@ pub fn refusal_reason_at(refusal: Refusal, board: Board, offset: u32) -> String 
         Refusal::FenceIllFormed => format!("the matching fence {at} is ill-formed"),
         refusal => refusal_reason(refusal, Some(board)).to_string(),
     }
+}
+
+/// The table entry that a write was refused at the store of: request 9 of document 02. The answer has address 0, but the
+/// record is exactly the entry's register, and MMADR is a multiple of 512 KiB.
+pub fn forbidden_entry(record: &Record, answer: &Answer) -> Option<u32> {
+    answer.refusal().filter(|refusal| *refusal == Refusal::ForbiddenEntry)?;
+    entry_at(record.address % REGISTERS_BYTES)
+}
+
+/// The table entry for which a record was refused in the window or at the store, as record and answer tell.
+pub fn refused_entry(record: &Record, answer: &Answer) -> Option<u32> {
+    let in_window = || refused_offset(record, answer).map(|offset| offset / 4096);
+    forbidden_entry(record, answer).or_else(in_window)
+}
+
+/// The reason of code 16, with the page in words.
+pub fn forbidden_reason(entry: u32, page: &str) -> String {
+    format!("entry {entry} would name {page}, and SMRAM is locked")
 }
 
 /// The refusal with this short name or number.
@@ -177,11 +196,30 @@ mod tests {
         assert_eq!(of(Refusal::Width), [Refusal::Width.reason(); 4]);
     }
 
+    /// Request 9 of document 02: the answer has no address, so the record tells the entry, wherever the registers are.
+    #[test]
+    fn the_record_names_the_entry_that_is_not_stored() {
+        let refused = Answer { code: 16, ..Answer::default() };
+        for base in [0x0100_0000, 0xF000_0000, 0xFFF8_0000] {
+            for entry in [0, 10, ENTRY_COUNT - 1] {
+                let record = Record::write(base + entry_offset(entry), 4, 0xA_0001, false);
+                assert_eq!(forbidden_entry(&record, &refused), Some(entry));
+                for code in [0, 6, 7, 10] {
+                    assert_eq!(forbidden_entry(&record, &Answer { code, ..Answer::default() }), None);
+                }
+            }
+            assert_eq!(forbidden_entry(&Record::write(base + PGTBL_CTL, 4, 1, false), &refused), None);
+        }
+        let reason = forbidden_reason(10, "a protected page");
+        assert_eq!(reason, "entry 10 would name a protected page, and SMRAM is locked");
+    }
+
     #[test]
     fn every_refusal_has_a_name_and_a_number() {
         assert_eq!(refusal_named("protected"), Some(Refusal::PageProtected));
         assert_eq!(refusal_named("6"), Some(Refusal::PageProtected));
-        assert_eq!(refusal_named("1"), None);
-        assert_eq!(REFUSALS.map(|(refusal, _)| refusal.code()), [2, 3, 4, 5, 6, 7, 8, 9, 10, 11, 12, 13]);
+        assert_eq!(refusal_named("forbidden"), refusal_named("16"));
+        assert_eq!(["1", "14", "15", "17"].map(refusal_named), [None; 4]);
+        assert_eq!(REFUSALS.map(|(refusal, _)| refusal.code()), [2, 3, 4, 5, 6, 7, 8, 9, 10, 11, 12, 13, 16]);
     }
 }

@@ -57,7 +57,7 @@ fn whole(hub: &Hub<'_>, guarded: &[Range<u32>], board: Board, records: usize, st
     memory(&mut page, hub);
     registers::configuration(&mut page, hub, board);
     registers::mapped(&mut page, hub);
-    table(&mut page, &Table::of(hub, guarded));
+    table(&mut page, &Table::of(hub, guarded), hub.smram().locked());
     ring::words(&mut page, hub, guarded);
     page.heading("Configuration space, as 'lspci -F' reads it");
     page.text.push_str(dump::devices(hub, board).trim_end());
@@ -110,12 +110,13 @@ fn memory(page: &mut Page, hub: &Hub<'_>) {
 }
 
 /// The valid entries of the translation table, and where it is in main memory.
-fn table(page: &mut Page, table: &Table) {
+fn table(page: &mut Page, table: &Table, locked: bool) {
     page.heading(match table.translation {
         true => "Translation table",
         false => "Translation table (off: every access through it is refused 3)",
     });
-    let row = |what: &str, range: (u64, u64)| format!("{what:<20}  {:<19}", format!("{:X}h-{:X}h", range.0, range.1));
+    let beside = |what: &str, more: &str| format!("{what:<20}  {more:<19}");
+    let row = |what: &str, range: (u64, u64)| beside(what, &format!("{:X}h-{:X}h", range.0, range.1));
     if let Some(home) = table.home() {
         page.row(&row("in main memory", home), "by PGTBL_CTL's bits 31:12");
     }
@@ -134,6 +135,32 @@ fn table(page: &mut Page, table: &Table) {
     if left != 0 {
         page.row(&format!(".. and {}", numbers::counted(left, "more word")), "");
     }
+    if locked {
+        let (tone, count, words) = protected_pages(table);
+        page.toned(&beside("of protected pages", &count), words, tone);
+    }
+}
+
+/// What an auditor asks once SMRAM is locked: how many entries name a protected page all the same, and why. Of words that
+/// are not for everybody nothing is said.
+fn protected_pages(table: &Table) -> (Tone, String, &'static str) {
+    let protected = |mapping: &&Mapping| matches!(mapping.found, Found::Pages { reach: Reach::Protected, .. });
+    let count: u64 = table.mappings.iter().filter(protected).map(Mapping::count).sum();
+    let hidden = table.mappings.iter().any(|mapping| mapping.found == Found::Hidden);
+    let counted = match (count, hidden) {
+        (0, false) => "none".to_string(),
+        (0, true) => "none of those shown".to_string(),
+        (1, false) => "1 entry".to_string(),
+        (_, false) => format!("{} entries", numbers::grouped(count)),
+        (_, true) => format!("{} of those shown", numbers::grouped(count)),
+    };
+    let words = match (count, table.home) {
+        (0, None) => "and none can come: SMRAM is locked",
+        (0, Some(_)) => "ordinary writes may put one there",
+        (_, None) => "from before the lock",
+        (_, Some(_)) => "from before, or by ordinary writes",
+    };
+    (if count == 0 { Tone::Reached } else { Tone::Refused }, counted, words)
 }
 
 /// What a mapping reaches, or its refusal; `display` says whether the display cache is on, where there is one.

@@ -256,11 +256,12 @@ fn display_pages() -> [u32; 3] {
 ///
 /// Pages are protected or not by SMRAM and the memory's length alone, and locked or not; and the display cache is on or
 /// off by DRT alone. So it is asked on a board that is like the one in force in these, with the window and the registers
-/// above all memory; and with graphics on, which protects nothing and without which there is no window.
+/// above all memory; with graphics on, which protects nothing and without which there is no window; and without the lock,
+/// with which the entries would not be stored.
 fn graphics_codes(pair: &mut Pair, smram: u8, drt: Option<u32>, words: &[u32]) -> Result<Vec<u8>, Failure> {
     const WINDOW: u32 = 0xC000_0000;
     const REGISTERS: u32 = 0xF000_0000;
-    let on = if Smram(smram).graphics_on() { smram } else { smram | 0x40 };
+    let on = if Smram(smram).graphics_on() { smram } else { smram | 0x40 } & !0x02;
     let writes = [(0, 0x70, 1, on.into()), (1, 0x10, 4, WINDOW), (1, 0x14, 4, REGISTERS), (1, 0x04, 1, 0x06)];
     let mut records: Vec<Record> =
         writes.into_iter().flat_map(|(device, at, width, data)| config_write(device, at, width, data)).collect();
@@ -583,9 +584,9 @@ mod tests {
         }
 
         /// What the proved call does with an entry that names a page: by a fetch of the parser, which needs no
-        /// window of the board's own. A table in main memory is at 20000h.
+        /// window of the board's own. A table in main memory is at 20000h. Not locked, so that the entry is stored.
         fn met(&mut self, smram: u32, page: u32) -> &'static str {
-            let on = if smram & 0xC0 == 0 { smram | 0xC0 } else { smram };
+            let on = if smram & 0xC0 == 0 { smram | 0xC0 } else { smram } & !2;
             let mut list = setup(on, 0x8000_0000, 0x4000_0000, 1);
             let registers =
                 [(names::PGTBL_CTL, 0x2_0001), (0x1_0010, page | 1), (0x2038, 0x4000), (0x203C, 1), (0x2030, 8)];

@@ -159,6 +159,10 @@ fn why(step: &Step<'_, '_>, refusal: Refusal, hidden: bool, hidden_page: bool) -
     if let Some(offset) = refused_offset(step) {
         return refused_in_window(step, refusal, offset, hidden_page);
     }
+    if let Some(entry) = names::forbidden_entry(&step.record, &step.answer) {
+        let page = unless_hidden(hidden, || format!("{:X}h", words::entry_page(step.record.data)));
+        return names::forbidden_reason(entry, &format!("protected page {page}"));
+    }
     if let Some(word) = refused_word(step, refusal) {
         return bad_word(step.hub, refusal, word.number, "", word.address);
     }
@@ -285,7 +289,7 @@ fn entry_word<O: Observer>(hub: &Gmch<'_, O>, entry: u32) -> u32 {
     }
 }
 
-/// What an entry's word says, unless it is hidden.
+/// What a table word says, unless it is hidden.
 fn unless_hidden(hidden: bool, text: impl FnOnce() -> String) -> String {
     if hidden {
         REDACTED.to_string()
