@@ -320,7 +320,7 @@ fn two_keys_have_the_same_offsets() {
     }
     let run = run(&["compare", &example("request-5-where-it-was-refused.trace")]);
     assert_eq!((run.status, run.errors.as_str()), (DONE, ""));
-    assert!(run.text.contains("5 records after the lock, 1 answer differs"), "{}", run.text);
+    assert!(run.text.contains("4 records after the lock, 1 answer differs"), "{}", run.text);
 }
 
 /// The audit names the entry of the first denied refusal, and of each code the one that was refused most often.
@@ -385,7 +385,7 @@ fn what_an_answer_holds_is_explained() {
         let answer = &text[text.find("\nAnswer ").expect("a paragraph")..text.find("\nExample").expect("an example")];
         answer.split_whitespace().collect::<Vec<_>>().join(" ")
     };
-    for code in 2..=13 {
+    for code in (2..=13).chain([16]) {
         let answer = paragraph(code);
         assert_eq!(answer.contains("the byte offset in the window after fencing"), (3..=7).contains(&code), "{answer}");
         assert_eq!(answer.contains("the byte offset in the window before fencing"), code == 9, "{answer}");
@@ -393,7 +393,7 @@ fn what_an_answer_holds_is_explained() {
         assert_eq!(answer.contains("the ring's head and the count"), [8, 11, 12].contains(&code), "{answer}");
         assert_eq!(answer.contains("register has address 0"), [6, 7].contains(&code), "{answer}");
         let zero = "Answer The code and the interrupt line, all else zero.";
-        assert_eq!(answer.starts_with(zero), [2, 10, 13].contains(&code), "{answer}");
+        assert_eq!(answer.starts_with(zero), [2, 10, 13, 16].contains(&code), "{answer}");
     }
     let when = run(&["explain", "not-valid"]).text.split_whitespace().collect::<Vec<_>>().join(" ");
     assert!(when.contains("Which entry it was, the answer tells: its address / 4096"), "{when}");
@@ -414,10 +414,13 @@ fn the_manual_page_has_the_words_of_each_refusal() {
     for (setup, _) in DISPLAY {
         printed += &replay("1", &["--only", "refused"], &format!("{DESK}{setup}read4 WINDOW+12ABCh\n")).text;
     }
+    let locked = format!("{DESK}config write dev0.SMRAM 4Eh\nentry 10 A0000h\n");
+    printed += &replay("82810", &["--only", "refused"], &locked).text;
     let refused: Vec<String> =
         section.lines().filter(|line| line.starts_with("refused ")).map(|line| line.replace("\\-", "-")).collect();
-    assert_eq!(refused.len(), 9);
+    assert_eq!(refused.len(), 10);
     for line in refused {
-        assert!(printed.contains(&format!(" {line} (rule 8: the window")), "{line}\n{printed}");
+        let rule = if line.starts_with("refused 16") { "rule 7: registers" } else { "rule 8: the window" };
+        assert!(printed.contains(&format!(" {line} ({rule}")), "{line}\n{printed}");
     }
 }

@@ -114,17 +114,18 @@ fn every_shell_has_every_command_and_option() {
 fn every_code_is_explained_with_an_example_that_runs() {
     let program = Path::new(env!("CARGO_BIN_EXE_mitrophel")).parent().expect("the program lies in a folder");
     let path = format!("{}:{}", program.display(), std::env::var("PATH").expect("a PATH"));
-    for code in 2..=13 {
+    for code in (2..=13).chain([16]) {
         let told = run(&["explain", &code.to_string()]);
         assert_eq!((told.status, told.errors.as_str()), (DONE, ""));
         let examples: Vec<&str> = told.text.split("mitrophel replay").skip(1).collect();
         // 6 and 7 are also given to a word of a table in main memory: in the window here, and at its register. 5 and 7
-        // are given to entries of the display cache, and 10 at its registers.
+        // are given to entries of the display cache, and 10 at its registers. 16 is given to a register in both homes.
         let homes: &[&str] = match code {
             5 => &["entry 1 (window offset 1000h) has type 01", "entry 1 (window offset 1000h) has type 01, display c"],
             6 => &["page A0000h of entry 1 ", "word 1 of the table (window offset 1000h), at A0004h, "],
             7 => &["page 800000h of entry 1 ", "word 1 of the table, at 800004h, ", "page 400000h of entry 1 "],
             10 => &["2 bytes at offset 2020h", "4 bytes at offset 3000h, not DRT as it is, 1 byte at 3000h"],
+            16 => &["entry 1 would name protected page A0000h, and SMRAM is locked"; 2],
             _ => &[""],
         };
         assert_eq!(examples.len(), homes.len(), "{}", told.text);
@@ -144,11 +145,15 @@ fn the_orders_of_both_homes_of_the_table_are_told() {
     for (code, orders) in [
         (
             "6",
-            &["13, 2, 10, 7, [6]", "13, 2, 9, 3, 7, [6], 4, 5, 7, [6]", "13, 11, 8, 3, 7, [6], 4, 5, 7, [6], 12"][..],
+            &["13, 2, 10, 7, [6], 16", "13, 2, 9, 3, 7, [6], 4, 5, 7, [6]", "13, 11, 8, 3, 7, [6], 4, 5, 7, [6], 12"][..],
         ),
-        ("7", &["13, 2, 10, [7], 6", "13, 2, 9, 3, [7], 6, 4, 5, [7], 6", "13, 11, 8, 3, [7], 6, 4, 5, [7], 6, 12"]),
+        (
+            "7",
+            &["13, 2, 10, [7], 6, 16", "13, 2, 9, 3, [7], 6, 4, 5, [7], 6", "13, 11, 8, 3, [7], 6, 4, 5, [7], 6, 12"],
+        ),
         ("3", &["13, 2, 9, [3], 7, 6, 4, 5, 7, 6", "13, 2, 9, [3], 4, 5, 7, 6"]),
-        ("10", &["13, 2, [10], 7, 6"]),
+        ("10", &["13, 2, [10], 16", "13, 2, [10], 7, 6, 16"]),
+        ("16", &["13, 2, 10, [16]", "13, 2, 10, 7, 6, [16]"]),
     ] {
         let told = run(&["explain", code]).text;
         for order in orders {
@@ -209,8 +214,10 @@ fn a_code_has_a_number_and_a_name() {
         assert!(told.text.starts_with(&format!("{number} {name}: ")), "{}", told.text);
         codes += 1;
     }
-    assert_eq!(codes, 13);
-    for words in [&["explain", "0"][..], &["explain", "14"], &["explain", "--all"], &["explain", "2", "3"]] {
+    assert_eq!(codes, 14);
+    for words in
+        [&["explain", "0"][..], &["explain", "14"], &["explain", "17"], &["explain", "--all"], &["explain", "2", "3"]]
+    {
         let run = run(words);
         assert_eq!((run.status, run.text.as_str()), (USAGE, ""));
         assert!(run.errors.contains("expected "), "{}", run.errors);

@@ -7,22 +7,30 @@ use cli::{run_with, DONE};
 use common::Random;
 use mitrophel::{trace, Board};
 
-/// What a key is written to: each place is protected at the end of the list, and is a place of the table's words.
+/// What a key is written to: each place is protected at some time of the list, and is a place of the table's words.
 const KEYS: &[&str] = &["A0000h", "A0004h", "A0FFCh", "A1000h", "B0000h", "700000h", "700004h", "7FFFFCh"];
 const TABLES: &[&str] = &["A0001h", "9F001h", "A0000h", "B0001h", "700001h", "6FF001h", "7FF001h", "200001h"];
 const SMRAMS: &[&str] = &["40h", "44h", "48h", "4Ch", "50h", "60h", "74h", "7Ch", "BCh"];
+/// Locked: the TSEG, A0000h-BFFFFh or both are protected.
+const LOCKS: &[&str] = &["76h", "4Eh", "76h", "7Eh"];
 const BASES: &str =
     "config write dev1.GMADR C0000000h\nconfig write dev1.MMADR F0000000h\nconfig write dev1.PCICMD 2\nwrite DRT 1\n";
 
-/// A list in which `KEY` is what management mode writes.
-fn list(random: &mut Random) -> String {
-    let mut list = format!("config write dev0.SMRAM {}\n{BASES}", random.pick(&["44h", "4Ch", "7Ch", "BCh"]));
+/// A list in which `KEY` is what management mode writes; locked from its start and after each reset, or not.
+fn list(random: &mut Random, locked: bool) -> String {
+    let (first, smrams, start): (&[&str], _, _) = match locked {
+        true => (LOCKS, LOCKS, "config write dev0.SMRAM 7Ch\nreset\n"),
+        false => (&["44h", "4Ch", "7Ch", "BCh"], SMRAMS, ""),
+    };
+    let mut list = format!("{start}config write dev0.SMRAM {}\n{BASES}", random.pick(first));
     for _ in 0..150 {
         let entry = random.pick(&[0, 1, 2, 1022, 1023, 1024, 1025, 2048]);
         let offset = 4096 * entry + 4 * random.below(1024);
         let (mode, who) = (random.pick(&["", "smm "]), random.pick(&["", "smm ", "master "]));
-        list += &match random.below(13) {
-            0 => format!("config write dev0.SMRAM {}\n", random.pick(SMRAMS)),
+        // Where it is locked, entries are written more often.
+        let more = locked && random.below(3) == 0;
+        list += &match if more { 4 } else { random.below(13) } {
+            0 => format!("config write dev0.SMRAM {}\n", random.pick(smrams)),
             1 => format!("write PGTBL_CTL {}\n", random.pick(TABLES)),
             2 => format!("smm write4 {} KEY\n", random.pick(KEYS)),
             3 => format!("{mode}read GTT[{entry}]\n"),
@@ -35,7 +43,7 @@ fn list(random: &mut Random) -> String {
             7 => format!("write LP_RING_TAIL {:X}h\nrun {}\n", 8 * random.below(1024), random.below(2000)),
             8 => format!("{mode}write4 WINDOW+{offset:X}h 0\n"),
             9 => format!("write FENCE0 {}\n", random.pick(&["0", "31h", "51h", "71h"])),
-            10 if random.below(3) == 0 => format!("reset\nconfig write dev0.SMRAM {}\n{BASES}", random.pick(SMRAMS)),
+            10 if random.below(3) == 0 => format!("reset\nconfig write dev0.SMRAM {}\n{BASES}", random.pick(smrams)),
             _ => format!("{mode}read{} WINDOW+{offset:X}h\n", random.pick(&["1", "2", "4"])),
         };
     }
@@ -46,9 +54,9 @@ fn list(random: &mut Random) -> String {
 #[test]
 fn what_is_printed_does_not_depend_on_the_key() {
     let commands: [&[&str]; 5] = [&["replay"], &["replay", "--json"], &["state"], &["map"], &["disasm"]];
-    let (mut hidden, mut offsets) = ([0; 3], [0; 3]);
-    for seed in 0..80 {
-        let list = list(&mut Random::new(seed));
+    let (mut hidden, mut offsets, mut forbidden) = ([0; 3], [0; 3], [0; 2]);
+    for seed in 0..112 {
+        let list = list(&mut Random::new(seed), seed >= 80);
         let keys = if seed / 4 % 2 == 0 { ["00345001h", "00346001h"] } else { ["00345003h", "00346003h"] };
         let [first, second] = keys
             .map(|key| trace::assemble(&list.replace("KEY", key)).unwrap_or_else(|errors| panic!("{errors}")).records);
@@ -73,7 +81,12 @@ fn what_is_printed_does_not_depend_on_the_key() {
                 offsets[1] += usize::from(line.contains(" before fence 0"));
                 offsets[2] += usize::from(line.contains('\u{B7}'));
             }
+            // A store that is refused with 16: its page is told, or not where its word would be among the key's.
+            for (seen, part) in forbidden.iter_mut().zip(["protected page 700000h", "protected page \u{B7}\u{B7},"]) {
+                *seen += one.text.matches(part).count();
+            }
         }
     }
-    assert!(hidden.iter().chain(&offsets).all(|seen| *seen > 20), "{hidden:?}, {offsets:?}");
+    let mut seen = hidden.iter().chain(&offsets).chain(&forbidden);
+    assert!(seen.all(|seen| *seen > 20), "{hidden:?}, {offsets:?}, {forbidden:?}");
 }
