@@ -183,8 +183,13 @@ impl Pair {
                     _ => false,
                 };
                 let value = self.hidden || secret || leaked;
-                let by_word = self.board.table_in_memory() && heard.rule == Some(Rule::Window);
-                let page = by_word && (self.hidden || secret_word != Some(false));
+                let by_word = match heard.rule {
+                    Some(Rule::Window) => self.hidden || secret_word != Some(false),
+                    // A refused store has no address: what the call has there may be of the word.
+                    Some(Rule::Registers) => value && answer.code != 0,
+                    _ => false,
+                };
+                let page = by_word && self.board.table_in_memory();
                 // A refusal's address is a window offset: the reference's is one, the other may be anything.
                 let pages = [page, page && beside.code == 0];
                 return Err(different_answers(index, &record, bases, [&answer, &beside], Hidden { value, pages }));
@@ -361,6 +366,12 @@ pub mod wrong {
         reading: RegisterReadsProtectedWords,
         /// Reads main memory where an entry leads into the display cache.
         confusing: DisplayReadFromMemory,
+        /// Stores an entry of a protected page after the lock.
+        storing: ForbiddenEntryStored,
+        /// Answers such a store with the page.
+        naming: Code16ShowsPage,
+        /// And with the word.
+        telling: Code16ShowsWord,
     }
 }
 
@@ -516,6 +527,26 @@ mod tests {
                     assert!(!failure.message.contains(part), "{access}: {}", failure.message);
                 }
                 assert!(failure.message.contains("shown as 0"), "{}", failure.message);
+            }
+        }
+    }
+
+    /// A0000h-BFFFFh is protected at another time, and a word that would be stored there is not for everybody.
+    #[test]
+    fn a_store_that_the_call_does_not_refuse_so_is_told_without_the_word() {
+        let list = "config write dev0.SMRAM 76h\nconfig write dev1.MMADR F0000000h\nconfig write dev1.PCICMD 2\n\
+                    write PGTBL_CTL A0001h\nwrite GTT[18] 7A5001h\n";
+        let records = trace::assemble(list).expect("a trace").records;
+        for (board, guarded) in [(Board::I82810, false), (Board::I82810Main, true), (Board::Dc100Main, true)] {
+            for call in [wrong::storing as Call, wrong::naming, wrong::telling] {
+                let mut pair = Pair::by(board, memory(board), call).guarding(vec![0xA_0000..0xC_0000]);
+                let message = pair.replay(&records, |_| Ok(())).expect_err("a wrong answer").message;
+                let statement = if guarded { "write GTT[18] \u{B7}\u{B7}\n" } else { "write GTT[18] 007A5001h\n" };
+                assert!(message.contains(&format!("DISAGREE at record 8 of the call: {statement}")), "{message}");
+                for part in ["7A5", "50 7A"].iter().filter(|_| guarded) {
+                    assert!(!message.contains(part), "{part}: {message}");
+                }
+                assert_eq!(message.contains("shown as 0"), guarded, "{message}");
             }
         }
     }
