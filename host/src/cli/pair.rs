@@ -539,7 +539,8 @@ mod tests {
         let records = trace::assemble(list).expect("a trace").records;
         for (board, guarded) in [(Board::I82810, false), (Board::I82810Main, true), (Board::Dc100Main, true)] {
             for call in [wrong::storing as Call, wrong::naming, wrong::telling] {
-                let mut pair = Pair::by(board, memory(board), call).guarding([0xA_0000..0xC_0000].into());
+                let mut pair =
+                    Pair::by(board, memory(board), call).guarding(vec![0xA_0000..0xB_0000, 0xB_0000..0xC_0000]);
                 let message = pair.replay(&records, |_| Ok(())).expect_err("a wrong answer").message;
                 let statement = if guarded { "write GTT[18] \u{B7}\u{B7}\n" } else { "write GTT[18] 007A5001h\n" };
                 assert!(message.contains(&format!("DISAGREE at record 8 of the call: {statement}")), "{message}");
