@@ -8,7 +8,7 @@ use lib.ListN.{length}
 use Rattle.gmch.specs.Records.{fitsWord}
 use Rattle.gmch.specs.Map.{Tom, Sized, Cached, mapFrom, mapOf, routeOf}
 use Rattle.gmch.specs.Machine.{cacheSize, cacheLength}
-use Rattle.gmch.specs.Access.{targetIn, settled}
+use Rattle.gmch.specs.Access.{targetIn}
 use Rattle.gmch.specs.declared.Board.{Board}
 use Rattle.gmch.specs.declared.State.{State}
 use Rattle.gmch.specs.declared.Map.{Map}
@@ -19,7 +19,6 @@ use Rattle.gmch.specs.declared.Target.the-variants.{Refused}
 use Rattle.gmch.specs.declared.Route.{Route}
 use Rattle.gmch.proofs.Choice.{choices}
 use Rattle.gmch.proofs.Routing.{Safe, refused-safe, memory-safe, cache-safe, register-safe, hub-safe, error-safe, vga-safe, mapped-safe, entry-safe, cache-register-safe, sized, cached, target-safe, SafeRoute, to-safe, registers-safe, offset-safe, route-safe}
-use Rattle.gmch.proofs.Settled.{settled-elim}
 use Rattle.words.specs.Width.{Width}
 use Rattle.words.proofs.Width.{fits-width}
 use Rattle.access.specs.Decide.{Reachable, InWindow}
@@ -58,11 +57,6 @@ reachable z c d vga-safe = tt
 reachable z c d mapped-safe = tt
 reachable z c d (entry-safe p l h n) = omega arith
 reachable z c d cache-register-safe = tt
-
--- code 16 takes none
-pub settled-reachable : (m : Map) (a : Access) (v : ℕ) (t : Target) (tom size : ℕ) → Reachable tom size (a .width) t
-    → Reachable tom size (a .width) (settled m a v t)
-settled-reachable m a v t tom size h = settled-elim m a v t (Reachable tom size (a .width)) tt (λ _. h)
 
 module _ (m : Map) (cf8 : ℕ) (fences : List ℕ) (control : ℕ) (look : ℕ → Look) (kind : ℕ) (a : Access) where
   abbrev t : Target

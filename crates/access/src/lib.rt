@@ -20,7 +20,7 @@ ghost use Rattle.gmch.specs.Machine.{machine};
 ghost use Rattle.gmch.specs.Map.{Tom, Sized, mapIn};
 ghost use Rattle.gmch.specs.Table.{wordReach, lookIn};
 ghost use Rattle.gmch.specs.Mapped.{isEntry, entryNumber, mappedValue, tableWritten};
-ghost use Rattle.gmch.specs.Access.{entryTarget, resolved, targetIn, isTableWord, barred, settled, act};
+ghost use Rattle.gmch.specs.Access.{entryTarget, resolved, targetIn, settled, act};
 ghost use Rattle.access.specs.Decide.{Reachable, InWindow, storeEffect, registerEffect, stateOf, Decides};
 ghost use Rattle.words.specs.Width.{Width};
 
@@ -153,52 +153,6 @@ pub fn target_of(
     map::master_target(m, a)
 }
 
-// ---- code 16
-
-// The target is a word of the table, in either home.
-fn is_table_word(t: Target) -> bool
-    ensures { λ r. ⌜ r ≡ isTableWord t ⌝ }
-{
-    match t {
-        Target::Mapped(o) => mapped::is_entry(o),
-        Target::Entry(_, _) => true,
-        Target::Refused(_, _) => false,
-        Target::Memory(_) => false,
-        Target::Cache(_) => false,
-        Target::Register(_) => false,
-        Target::Hub(_) => false,
-        Target::HubError(_) => false,
-        Target::Vga(_) => false,
-        Target::CacheRegister(_) => false,
-    }
-}
-
-// With the lock set, a write of `v` may not store its entry. The host's call shows the length of memory.
-fn barred(m: Map, v: u32) -> bool
-    requires { ⌜ Tom (m .tom) ⌝ }
-    ensures { λ r. ⌜ r ≡ barred m v ⌝ }
-{
-    if m.smram / 2 % 2 == 0 {
-        return false;
-    }
-    graphics::forbidden(m, mapped::stored(v))
-}
-
-// Where a read, or a write of `v`, ends after all. The host's call shows the length of memory.
-pub fn settle(m: Map, a: Access, v: u32, t: Target) -> Target
-    requires { ⌜ Tom (m .tom) ⌝ }
-    ensures { λ r. ⌜ r ≡ settled m a v t ⌝ }
-{
-    if is_table_word(t) {
-        if a.write {
-            if barred(m, v) {
-                return Target::Refused(16, 0);
-            }
-        }
-    }
-    t
-}
-
 // ---- what it does there
 
 // The answer for a target with the value that was read, and what is asked of the state.
@@ -258,8 +212,10 @@ fn register_effect(n: u32, width: u32, v: u32) -> Effect
     Effect::Configure(n, width, v)
 }
 
-// An access where it ends. `decide` shows that the bytes are there.
+// An access where it ends; or code 16, which alone looks at the data. It is asked where a word of the table would be stored, so
+// that no other access pays for it. `decide` shows that the bytes are there.
 pub fn act<'a>(
+    m: Map,
     cf8: u32,
     dev0: &'a [u8; 256],
     dev1: &'a [u8; 256],
@@ -273,8 +229,8 @@ pub fn act<'a>(
     v: u32,
     t: Target,
 ) -> Decided
-    requires { ⌜ (length (now table) ≡ 16384) × Reachable (length (now memory)) (length (now display)) (a .width) t ⌝ }
-    ensures { λ d. ⌜ Decides (stateOf cf8 (now (dev0 .entry)) (now (dev1 .entry)) (now (fences .entry)) regs (now (dram .entry))) (now (table .exit)) (now (memory .exit)) (now (display .exit)) d (λ s. act (machine s (now (table .entry)) (now (memory .entry)) (now (display .entry))) a v t) ⌝ }
+    requires { ⌜ Tom (m .tom) × (length (now table) ≡ 16384) × Reachable (length (now memory)) (length (now display)) (a .width) t ⌝ }
+    ensures { λ d. ⌜ Decides (stateOf cf8 (now (dev0 .entry)) (now (dev1 .entry)) (now (fences .entry)) regs (now (dram .entry))) (now (table .exit)) (now (memory .exit)) (now (display .exit)) d (λ s. act (machine s (now (table .entry)) (now (memory .entry)) (now (display .entry))) a v (settled m a v t)) ⌝ }
 {
     let write = a.write;
     let width = a.width;
@@ -284,6 +240,13 @@ pub fn act<'a>(
             done(t, x, Effect::Keep)
         }
         Target::Mapped(o) => {
+            if write {
+                if mapped::is_entry(o) {
+                    if lock::barred(m, v) {
+                        return done(Target::Refused(16, 0), 0, Effect::Keep);
+                    }
+                }
+            }
             let all = *fences;
             let x = at_mapped(all, regs, table, write, v, o);
             let e = store_effect(write, o, v);
@@ -302,6 +265,11 @@ pub fn act<'a>(
         Target::Hub(_) => done(t, 0, Effect::Keep),
         Target::Vga(_) => done(t, 0, Effect::Keep),
         Target::Entry(_, p) => {
+            if write {
+                if lock::barred(m, v) {
+                    return done(Target::Refused(16, 0), 0, Effect::Keep);
+                }
+            }
             let x = in_memory(memory, write, 4, mapped::stored(v), p);
             done(t, x, Effect::Keep)
         }

@@ -88,11 +88,24 @@ module _ (m : Map) (a : Access) (v : ℕ) (t : Target) where
   unfolding settled
   settled-elim P h k = pick-elim P _ (λ _. h) k
 
+  pub settled-refused : (a .write and (isTableWord t and barred m v)) ≡ true → settled m a v t ≡ Refused 16 0
+  unfolding settled
+  settled-refused e = simp (e, choices)
+
+  pub settled-passed : (a .write and (isTableWord t and barred m v)) ≡ false → settled m a v t ≡ t
+  unfolding settled
+  settled-passed e = simp (e, choices)
+
+  -- what is no word of the table
+  pub settled-plain : isTableWord t ≡ false → settled m a v t ≡ t
+  unfolding settled
+  settled-plain e = simp (e, choices)
+
   -- what lies in protected memory is no word of the table, so it ends there whatever the data
   pub settled-hidden : {tom smram : ℕ} {cache : Bool} → Safe tom smram cache a t → isProtected (protectedAt tom smram) (locationOf t) ≡ true
       → settled m a v t ≡ t
-  unfolding settled isTableWord locationOf isProtected
-  settled-hidden {tom} {smram} {cache} s e = simp (no-word s e, choices)
+  unfolding isTableWord locationOf isProtected
+  settled-hidden {tom} {smram} {cache} s e = settled-plain (no-word s e)
     where
       no-word : {t : Target} → Safe tom smram cache a t → isProtected (protectedAt tom smram) (locationOf t) ≡ true → isTableWord t ≡ false
       no-word refused-safe e = refl
@@ -105,3 +118,7 @@ module _ (m : Map) (a : Access) (v : ℕ) (t : Target) where
       no-word mapped-safe e = absurd (false≢true e)
       no-word (entry-safe p l h n) e = clash (protectedAt tom smram p) e n
       no-word cache-register-safe e = refl
+
+-- the same of a target that is known
+pub settled-is : (m : Map) (a : Access) (v : ℕ) {t t′ : Target} → t ≡ t′ → isTableWord t′ ≡ false → settled m a v t ≡ t′
+settled-is m a v {t} {t′} k e = rw k (settled-plain m a v t′ e)

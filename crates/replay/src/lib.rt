@@ -116,8 +116,8 @@ pub fn decide<'a>(
     }
     let a = records::access_of(r);
     let t = access::target_of(m, cf8, fences, regs.control, table, memory, r.kind, a);
-    let end = access::settle(m, a, r.value, t);
     access::act(
+        m,
         cf8,
         dev0,
         dev1,
@@ -129,7 +129,7 @@ pub fn decide<'a>(
         display,
         a,
         r.value,
-        end,
+        t,
     )
 }
 

@@ -12,7 +12,7 @@ use Rattle.graphics.proofs.forbidden.Tie as tie
 
 returns : tie.Need-returns
 unfolding forbidden
-returns c = let e = c .if1 .taken in simp (ne-eqb (c .before .args .entry % 2) 1 (λ h. omega arith), choices)
+returns c = let e = c .if1 .taken in simp (ne-eqb (c .before .args .word % 2) 1 (λ h. omega arith), choices)
 
 returns-2 : tie.Need-returns-2
 unfolding forbidden
@@ -22,9 +22,9 @@ returns-3 : tie.Need-returns-3
 unfolding forbidden
 returns-3 c =
     let e = c .before .before .before .before .if1 .left in
-    let entry = c .before .before .before .before .before .args .entry in
+    let word = c .before .before .before .before .before .args .word in
     let f = main-type _ ∙ ap not (flag (c .before .before .before .foreign .ensures) (c .before .before .if2 .left)) in
-    rw (c .protected-at .ensures, c .before .page-of .ensures) (simp (eq-eqb (entry % 2) 1 (omega arith), f, choices))
+    rw (c .protected-at .ensures, c .before .page-of .ensures) (simp (eq-eqb (word % 2) 1 (omega arith), f, choices))
 
 pub forbidden-spec : {M : Type 1} → statement M
 forbidden-spec =

@@ -5,7 +5,7 @@ use Rattle.gmch.specs.Access.{targetOf}
 use Rattle.gmch.proofs.Choice.{flag}
 use Rattle.access.specs.Decide.{changed, applied}
 use Rattle.replay.proofs.Laws.{malformed, a-run, a-reset, an-access, run-done, reset-done}
-use Rattle.access.proofs.Bounds.{settled-reachable, target-reachable}
+use Rattle.access.proofs.Bounds.{target-reachable}
 use Rattle.replay.proofs.decide.Statement.{statement}
 use Rattle.replay.proofs.decide.Tie as tie
 
@@ -34,21 +34,18 @@ returns-3 c =
 
 act-requires : tie.Need-act-requires
 act-requires c κs =
-    let x = c .before .before .before .before .before .before .before .before .before .before .before .before .before .before .before .before .before in
-    let z = x .pre in (
-      z .1 .3,
-      rw (z .1 .4, c .before .before .before .settle .ensures, c .before .before .before .before .target-of .ensures)
-          (settled-reachable _ _ _ _ _ _ (target-reachable _ _ _ _ _ _ _ (x .args .display .now) (z .1 .0) (z .1 .2) (z .2))),
-    )
+    let x = c .before .before .before .before .before .before .before .before .before .before .before .before .before .before .before .before in
+    let z = x .pre in
+    (z .1 .0, z .1 .3, rw (z .1 .4, c .before .before .before .target-of .ensures) (target-reachable _ _ _ _ _ _ _ (x .args .display .now) (z .1 .0) (z .1 .2) (z .2)))
 
 returns-4 : tie.Need-returns-4
 unfolding targetOf
 returns-4 c =
-    let w = c .before .before .before .before .before .before .before .before .before .before .before .before .before .before .before .before .before .before .before in
+    let w = c .before .before .before .before .before .before .before .before .before .before .before .before .before .before .before .before .before .before in
     let e = flag (ap not (w .before .well-formed .ensures)) (w .if1 .left) in
     let a = c .before .before .before .before .before .before .act .ensures in
-    let t = c .before .before .before .before .before .before .before .before .before .before .before in
-    (λ p q. a .0 p q ∙ rw (c .before .before .before .before .before .before .before .before .before .before .settle .ensures, t .target-of .ensures, t .before .before .before .access-of .ensures, w .before .before .before .before .before .pre .0) (an-access _ _ _ e (t .before .before .before .before .before .before .if2 .left) (t .before .before .before .before .if3 .left)), a .1)
+    let t = c .before .before .before .before .before .before .before .before .before .before in
+    (λ p q. a .0 p q ∙ rw (t .target-of .ensures, t .before .before .before .access-of .ensures, w .before .before .before .before .before .pre .0) (an-access _ _ _ e (t .before .before .before .before .before .before .if2 .left) (t .before .before .before .before .if3 .left)), a .1)
 
 pub decide-spec : {M : Type 1} → statement M
 decide-spec =
@@ -67,7 +64,6 @@ decide-spec =
     (λ c κs. search needs)
     (λ c. search needs)
     returns-3
-    (λ c κs. search needs)
     (λ c κs. search needs)
     (λ c κs. search needs)
     act-requires

@@ -4,8 +4,8 @@ use Prim.Native.Nat.{_/_, _%_}
 use native.Mathlib.Omega.{arith}
 use Rattle.gmch.specs.Access.{barred}
 use Rattle.gmch.proofs.Choice.{choices}
-use Rattle.access.proofs.barred.Statement.{statement}
-use Rattle.access.proofs.barred.Tie as tie
+use Rattle.lock.proofs.barred.Statement.{statement}
+use Rattle.lock.proofs.barred.Tie as tie
 
 returns : tie.Need-returns
 unfolding barred
