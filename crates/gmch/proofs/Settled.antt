@@ -3,9 +3,9 @@ use Prim.Native.Nat.{ℕ, zero, suc, _/_, _%_, _<_}
 use mathlib.Core.Path.{_≡_, refl, ap, _∙_}
 use mathlib.Core.Bool.{Bool, true, false, not, false≢true}
 use lib.Dec.{leb, eqb}
-use borrow.Author.Tests.{eqb-true, eqb-false, eq-eqb, ne-eqb, lt-leb, leb-true, not-false}
+use borrow.Author.Tests.{eqb-true, eqb-false, eq-eqb, ne-eqb, leb-true}
 use native.Mathlib.Omega.{arith}
-use Rattle.gmch.specs.Choice.{pick, _and_, _or_}
+use Rattle.gmch.specs.Choice.{_and_, _or_}
 use Rattle.gmch.specs.Map.{Tom, protectedAt}
 use Rattle.gmch.specs.Table.{pageOf, foreign, foreignReach, entryReach, forbidden}
 use Rattle.gmch.specs.Access.{isTableWord, barred, settled, locationOf}
