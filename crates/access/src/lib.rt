@@ -60,6 +60,8 @@ pub fn map_of<'a>(b: Board, dev0: &'a [u8; 256], dev1: &'a [u8; 256], dram: &'a 
 {
     map::map_from(
         b,
+        dev0[0x51],
+        dev0[0x58],
         dev0[0x70],
         dev0[0x72],
         dev1[0x04],

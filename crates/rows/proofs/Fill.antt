@@ -39,13 +39,13 @@ length-filled device r a = pick-elim (λ (l : List ℕ). length l ≡ length a) 
 abbrev pub rowAt : ℕ → Row
 rowAt i = getD rows i zeroRow
 
-all-narrow : table (λ (i : ℕ). fitsWord (rowAt i .width) (rowAt i .at)) 24 ≡ table (λ (i : ℕ). true) 24
+all-narrow : table (λ (i : ℕ). fitsWord (rowAt i .width) (rowAt i .at)) 26 ≡ table (λ (i : ℕ). true) 26
 unfolding table rows fitsWord _and_ _or_
 all-narrow = refl
 
-all-inside : table (λ (i : ℕ). leb (rowAt i .at % 256 + rowAt i .width) 256) 24 ≡ table (λ (i : ℕ). true) 24
+all-inside : table (λ (i : ℕ). leb (rowAt i .at % 256 + rowAt i .width) 256) 26 ≡ table (λ (i : ℕ). true) 26
 unfolding table rows
 all-inside = refl
 
-pub row-fits : (i : ℕ) → i < 24 → Width (rowAt i .width) × (rowAt i .at % 256 + rowAt i .width ≤ 256)
-row-fits i h = (fits-width _ _ (same-at _ _ 24 all-narrow i h) .0, leb-true _ _ (same-at _ _ 24 all-inside i h))
+pub row-fits : (i : ℕ) → i < 26 → Width (rowAt i .width) × (rowAt i .at % 256 + rowAt i .width ≤ 256)
+row-fits i h = (fits-width _ _ (same-at _ _ 26 all-narrow i h) .0, leb-true _ _ (same-at _ _ 26 all-inside i h))

@@ -1,4 +1,4 @@
-// The register rows of document 01: the bytes at a cold start, and what a write may change.
+// The register rows of documents 01 and 02: the bytes at a cold start, and what a write may change.
 use gmch::Row;
 ghost use mathlib.Core.Path.{_≡_};
 ghost use Prim.Native.Nat.{_*_, _<_};
@@ -11,7 +11,7 @@ pub struct Bits {
     pub clearing: u32,
 }
 
-const ROWS: [Row; 24] = [
+const ROWS: [Row; 26] = [
     // device 0: VID
     Row {
         at: 0x000,
@@ -58,6 +58,22 @@ const ROWS: [Row; 24] = [
         width: 1,
         default: 0x06,
         writable: 0,
+        clearing: 0,
+    },
+    // PAMR
+    Row {
+        at: 0x051,
+        width: 1,
+        default: 0x00,
+        writable: 0xFF,
+        clearing: 0,
+    },
+    // FDHC
+    Row {
+        at: 0x058,
+        width: 1,
+        default: 0x00,
+        writable: 0x80,
         clearing: 0,
     },
     // SMRAM: what a write leaves has a rule of its own, smram_written
@@ -213,7 +229,7 @@ fn default_bytes(device: u32) -> [u8; 256]
     let table = ROWS;
     let mut a = [0u8; 256];
     let mut i: usize = 0;
-    while i < 24 {
+    while i < 26 {
         let r = table[i];
         if r.at / 256 == device {
             words::store(&mut a, (r.at % 256) as usize, r.width, r.default);
@@ -263,14 +279,14 @@ fn row_bits(w: u32) -> Bits
     let table = ROWS;
     let mut p: u32 = 0;
     let mut i: usize = 0;
-    while i < 24 {
+    while i < 26 {
         let r = table[i];
         p = joined(p, r.writable, r.at, w);
         i = i + 1;
     }
     let mut c: u32 = 0;
     let mut j: usize = 0;
-    while j < 24 {
+    while j < 26 {
         let r = table[j];
         c = joined(c, r.clearing, r.at, w);
         j = j + 1;

@@ -17,7 +17,7 @@ abbrev Inv-loop : tie.InvT-loop
 Inv-loop device table a₀ i₀ a i = (length a ≡ 256) × (foldl (filledBy device) a (drop i rows) ≡ foldl (filledBy device) (replicate 256 0) rows)
 
 abbrev μ-loop : tie.MeasureT-loop
-μ-loop device table a₀ i₀ a i = 24 - i
+μ-loop device table a₀ i₀ a i = 26 - i
 
 store-requires : tie.Need-store-requires Inv-loop μ-loop
 unfolding rows

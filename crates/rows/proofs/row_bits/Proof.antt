@@ -22,13 +22,13 @@ abbrev Inv-loop : tie.InvT-loop
 Inv-loop w table p₀ i₀ p i = foldl (stores w) p (drop i rows) ≡ foldl (stores w) 0 rows
 
 abbrev μ-loop : tie.MeasureT-loop
-μ-loop w table p₀ i₀ p i = 24 - i
+μ-loop w table p₀ i₀ p i = 26 - i
 
 abbrev Inv-loop2 : tie.InvT-loop2
 Inv-loop2 w table p i c₀ j₀ c j = foldl (clears w) c (drop j rows) ≡ foldl (clears w) 0 rows
 
 abbrev μ-loop2 : tie.MeasureT-loop2
-μ-loop2 w table p i c₀ j₀ c j = 24 - j
+μ-loop2 w table p i c₀ j₀ c j = 26 - j
 
 loop-again : tie.Need-loop-again Inv-loop μ-loop Inv-loop2 μ-loop2
 unfolding rows
