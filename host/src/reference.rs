@@ -15,6 +15,7 @@ mod observe;
 mod registers;
 mod ring;
 mod routing;
+mod shadow;
 mod table;
 mod window;
 

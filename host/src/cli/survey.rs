@@ -411,7 +411,7 @@ impl Asked {
     fn name(&self, first: u32, processor: Rule) -> &'static str {
         match processor {
             Rule::CompatibleMemory | Rule::CompatibleVga | Rule::CompatibleHub => "VGA",
-            Rule::Bios => "BIOS",
+            Rule::ShadowMemory | Rule::ShadowHub => "BIOS",
             Rule::TsegMemory | Rule::TsegError => "TSEG",
             Rule::Taken => "taken",
             Rule::HsegMemory | Rule::HsegError => "HSEG",
@@ -430,7 +430,9 @@ fn cell(rule: Rule) -> Cell {
         Rule::CompatibleMemory => (Class::Memory, "memory (2)"),
         Rule::CompatibleVga => (Class::Vga, "VGA (2)"),
         Rule::CompatibleHub => (Class::Hub, "hub (2)"),
-        Rule::Bios => (Class::Hub, "hub (3)"),
+        Rule::ShadowMemory | Rule::MasterShadow => (Class::Memory, "memory (3)"),
+        Rule::ShadowHub => (Class::Hub, "hub (3)"),
+        Rule::Hole | Rule::MasterHole => (Class::Hub, "hub (4)"),
         Rule::Main => (Class::Memory, "memory (4)"),
         Rule::TsegMemory => (Class::Memory, "memory (5)"),
         Rule::TsegError => (Class::Error, "hub, error (5)"),

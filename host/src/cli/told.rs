@@ -367,7 +367,7 @@ fn reason(step: &Step<'_, '_>, hidden_page: bool) -> String {
         Rule::Low => "rule 1: below A0000h".to_string(),
         Rule::CompatibleMemory | Rule::CompatibleVga => format!("rule 2: {}", compatible(step)),
         Rule::CompatibleHub => format!("rule 2: {}, graphics off", compatible(step)),
-        Rule::Bios => "rule 3: C0000h-FFFFFh".to_string(),
+        Rule::ShadowMemory | Rule::ShadowHub => "rule 3: C0000h-FFFFFh".to_string(),
         Rule::Main => format!("rule 4: below U, {:X}h", hub.usable_top()),
         Rule::TsegMemory => "rule 5: TSEG, management mode".to_string(),
         Rule::TsegError => "rule 5: TSEG, not management mode".to_string(),
@@ -384,6 +384,7 @@ fn reason(step: &Step<'_, '_>, hidden_page: bool) -> String {
         Rule::MasterCompatible => "hub master by rule 2: LSMM 01, general memory".to_string(),
         Rule::MasterMain => format!("hub master by rule 4: below U, {:X}h", hub.usable_top()),
         Rule::MasterHub => master_reason(step),
+        Rule::Hole | Rule::MasterShadow | Rule::MasterHole => rule.to_string(),
     }
 }
 

@@ -22,13 +22,15 @@ const fn row(at: usize, bytes: usize, default: u32, plain: u32, clears: u32) -> 
 }
 
 /// Device 0. The device id at 02 is the 82810's; see [`device_ids`].
-const DEVICE_0: [Row; 10] = [
+const DEVICE_0: [Row; 12] = [
     row(0x00, 2, 0x8086, 0, 0),
     row(0x02, 2, 0x7120, 0, 0),
     row(0x04, 2, 0x0006, 0x0100, 0),
     row(0x06, 2, 0x0080, 0, 0x7000),
     row(0x08, 1, 0x02, 0, 0),
     row(0x0B, 1, 0x06, 0, 0),
+    row(PAMR, 1, 0x00, 0xFF, 0),
+    row(FDHC, 1, 0x00, HOLE, 0),
     row(SMRAM, 1, 0x00, 0xFE, 0x01),
     row(MISCC, 2, 0x0000, 0x0001, 0),
     row(0x80, 1, 0x00, 0xFF, 0),
@@ -62,6 +64,12 @@ const fn device_ids(board: Board) -> [u16; 2] {
     }
 }
 
+/// Request 8 of document 02: the datasheet's programmable attributes, section 3.4.14.
+const PAMR: usize = 0x51;
+/// The datasheet's fixed hole, section 3.4.17. Its bits 6:0 are "Reserved" and read 0, as unnamed bits do.
+const FDHC: usize = 0x58;
+/// "Hole Enable (HEN)", bit 7 of FDHC.
+const HOLE: u32 = 0x80;
 const SMRAM: usize = 0x70;
 const MISCC: usize = 0x72;
 const COMMAND: usize = 0x04;
@@ -424,6 +432,39 @@ impl<O: Observer, F: Faults> Gmch<'_, O, F> {
     #[inline]
     pub fn smram(&self) -> Smram {
         Smram(self.devices[0][SMRAM])
+    }
+
+    /// PAMR, device 0 register 51: the pairs of bits that steer C0000h-FFFFFh.
+    ///
+    /// ```
+    /// # use mitrophel::reference::{Gmch, TABLE_WORDS};
+    /// # use mitrophel::{Board, Record};
+    /// # let (mut memory, mut table) = (vec![0; 8 << 20], [0; TABLE_WORDS]);
+    /// # let mut gmch = Gmch::new(Board::I82810, &mut memory, &mut table, &mut []).expect("8 MiB is a memory");
+    /// gmch.answer(&Record::io_write(0xCF8, 4, 0x8000_0050));
+    /// gmch.answer(&Record::io_write(0xCFD, 1, 0x93));
+    /// assert_eq!(gmch.pamr(), 0x93);
+    /// ```
+    #[inline]
+    pub fn pamr(&self) -> u8 {
+        self.devices[0][PAMR]
+    }
+
+    /// Whether the hole at F00000h-FFFFFFh is on: FDHC, device 0 register 58, bit 7.
+    ///
+    /// ```
+    /// # use mitrophel::reference::{Gmch, TABLE_WORDS};
+    /// # use mitrophel::{Board, Record};
+    /// # let (mut memory, mut table) = (vec![0; 8 << 20], [0; TABLE_WORDS]);
+    /// # let mut gmch = Gmch::new(Board::I82810, &mut memory, &mut table, &mut []).expect("8 MiB is a memory");
+    /// assert!(!gmch.hole());
+    /// gmch.answer(&Record::io_write(0xCF8, 4, 0x8000_0058));
+    /// gmch.answer(&Record::io_write(0xCFC, 1, 0x80));
+    /// assert!(gmch.hole());
+    /// ```
+    #[inline]
+    pub fn hole(&self) -> bool {
+        u32::from(self.devices[0][FDHC]) & HOLE != 0
     }
 
     /// "Register 72 bit 0: window 32 MiB if 1, else 64."

@@ -35,7 +35,7 @@ impl<O: Observer, F: Faults> Gmch<'_, O, F> {
     pub(super) fn addressed(&mut self, access: Access, mode: Mode) -> Result<Answer, Refused> {
         let (rule, route) = match mode {
             Mode::Processor { management, code } => self.route_processor(access, management, code),
-            Mode::Master => self.route_master(access.address),
+            Mode::Master => self.route_master(access.address, access.data.is_some()),
         };
         self.observer.routed(rule);
         match route {
@@ -81,15 +81,22 @@ impl<O: Observer, F: Faults> Gmch<'_, O, F> {
         top - self.smram().tseg_bytes() - self.smram().taken_bytes()
     }
 
-    /// "First match, processor", rules 1 to 9. Request 6 of document 02: "The address map's order stays."
+    /// "First match, processor", rules 1 to 9. Request 6 of document 02: "The address map's order stays." Rules 3 and 4
+    /// are those of request 8: shadow memory "in the places of rules 3 and 4".
     #[inline]
     fn route_processor(&self, access: Access, management: bool, code: bool) -> (Rule, Route) {
         match access.address {
             address @ 0..=0x9_FFFF => (Rule::Low, Route::Memory(address)),
             address @ 0xA_0000..=0xB_FFFF => self.route_compatible(address, management, code, access.data.is_some()),
-            0xC_0000..=0xF_FFFF => (Rule::Bios, Route::Hub),
+            address @ 0xC_0000..=0xF_FFFF => match self.shadowed(address, access.data.is_some()) {
+                true => (Rule::ShadowMemory, Route::Memory(address)),
+                false => (Rule::ShadowHub, Route::Hub),
+            },
             address if self.over_memory(address) => self.route_graphics(address),
-            address if address < self.usable_top() => (Rule::Main, Route::Memory(address)),
+            address if address < self.usable_top() => match self.in_hole(address) {
+                true => (Rule::Hole, Route::Hub),
+                false => (Rule::Main, Route::Memory(address)),
+            },
             address if address < self.tom => self.route_top(address, management),
             address @ 0xFEEA_0000..=0xFEEB_FFFF if self.hseg_acts() => match management {
                 true => (Rule::HsegMemory, Route::Memory(0xA_0000 + (address - 0xFEEA_0000))),
@@ -163,9 +170,10 @@ impl<O: Observer, F: Faults> Gmch<'_, O, F> {
         }
     }
 
-    /// "Hub masters: memory by rules 1, 4 and by 2 with LSMM 01; else hub, no error bit."
+    /// "Hub masters: memory by rules 1, 4 and by 2 with LSMM 01; else hub, no error bit." Request 8 of document 02 has
+    /// rules 3 and 4 for "processor and hub master accesses" alike.
     #[inline]
-    fn route_master(&self, address: u32) -> (Rule, Route) {
+    fn route_master(&self, address: u32, write: bool) -> (Rule, Route) {
         let opened = match self.smram().lsmm() {
             Lsmm::General => true,
             Lsmm::ManagementAll => self.wrong(Fault::MastersReachManagementMemory),
@@ -174,8 +182,12 @@ impl<O: Observer, F: Faults> Gmch<'_, O, F> {
         match address {
             0..=0x9_FFFF => (Rule::MasterLow, Route::Memory(address)),
             0xA_0000..=0xB_FFFF if opened => (Rule::MasterCompatible, Route::Memory(address)),
+            0xC_0000..=0xF_FFFF if self.shadowed(address, write) => (Rule::MasterShadow, Route::Memory(address)),
             0x2000_0000.. if self.wrong(Fault::MastersBelow512Mib) => (Rule::MasterHub, Route::Hub),
-            0x10_0000.. if address < self.usable_top() => (Rule::MasterMain, Route::Memory(address)),
+            0x10_0000.. if address < self.usable_top() => match self.in_hole(address) {
+                true => (Rule::MasterHole, Route::Hub),
+                false => (Rule::MasterMain, Route::Memory(address)),
+            },
             _ if self.wrong(Fault::ErrorForMasters) && self.in_tseg(address) => (Rule::MasterHub, Route::HubWithError),
             _ => (Rule::MasterHub, Route::Hub),
         }
