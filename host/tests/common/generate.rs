@@ -1,4 +1,4 @@
-//! Random lists of records that reach the corners of document 01 and of requests 3, 5, 6, 9, 10 and 11 of document 02.
+//! Random lists of records that reach the corners of document 01 and of requests 3, 5, 6, 8, 9, 10 and 11 of document 02.
 //!
 //! A list is made while the reference replays it, so that each record can aim at the state that it
 //! will meet: at the borders of the map as they stand, at entries and fences that are set, at the
@@ -13,6 +13,10 @@ use mitrophel::{Answer, Board, Record, DISPLAY_BYTES};
 const KIB: u32 = 1 << 10;
 const MIB: u32 = 1 << 20;
 const PAGE: u32 = 4096;
+/// What PAMR steers, where the hole begins, and where it ends.
+const SHADOW: u32 = 0xC_0000;
+const HOLE: u32 = 15 * MIB;
+const HOLE_END: u32 = 16 * MIB;
 
 /// The largest memory that a list gets where it chooses one itself.
 pub const LIST_MEMORY: usize = 24 << 20;
@@ -52,11 +56,11 @@ fn instruction(noise: u32) -> u32 {
     opcode << 23 | noise & 0x007F_FFFF
 }
 
-/// Which board a list is for: its kind and its memory.
+/// Which board a list is for: its kind and its memory. The hole is above 8 MiB, and with 16 MiB it ends where memory does.
 pub fn board(random: &mut Random) -> (u32, usize) {
     let tom = match random.below(20) {
-        0 => 24,
-        1 | 2 => 16,
+        0..=2 => 24,
+        3..=6 => 16,
         _ => 8,
     };
     (random.below(Board::ALL.len() as u32), tom << 20)
@@ -129,6 +133,8 @@ impl<'m> Generator<'m> {
             window_bytes: self.hub.window_bytes(),
             fences: std::array::from_fn(|number| self.hub.fence(number).map_or(0, |fence| fence.0)),
             smram: self.hub.smram().0,
+            pamr: self.hub.pamr(),
+            hole: self.hub.hole(),
             held: self.held_by_register(record.address),
             table: self.hub.table_word_address(0),
             pm_cs: u16::from_le_bytes([0xE0, 0xE1].map(|at| self.hub.config_byte(1, at).unwrap_or(0))),
@@ -161,6 +167,12 @@ impl<'m> Generator<'m> {
         }
         self.set_bases();
         self.enable_device();
+        if self.random.one_in(2) {
+            self.set_pamr();
+        }
+        if self.random.one_in(3) {
+            self.set_hole();
+        }
         if self.random.one_in(8) {
             let device = self.random.below(2);
             self.config_read(device, 0x00, 4);
@@ -204,7 +216,10 @@ impl<'m> Generator<'m> {
         if self.hub.smram().locked() && self.random.one_in(12) {
             return self.write_near_protected();
         }
-        match self.random.below(70) {
+        if self.hub.tom() > HOLE && self.random.one_in(24) {
+            return self.access_hole();
+        }
+        match self.random.below(73) {
             0..=8 => self.access_window(),
             9..=14 => self.access_border(),
             15..=18 => self.access_memory(),
@@ -246,6 +261,9 @@ impl<'m> Generator<'m> {
             63..=65 => self.access_owned(),
             66 => self.refuse_after_fencing(),
             67..=68 => self.use_display(),
+            69 => self.access_shadow(),
+            70 => self.access_hole(),
+            71 => self.reach_behind(),
             _ => self.reset(),
         }
     }
@@ -287,6 +305,10 @@ impl<'m> Generator<'m> {
             }
             if self.random.one_in(2) {
                 self.config_read(1, 0xE0, 4);
+            }
+            if self.random.one_in(2) {
+                self.config_read(0, 0x50, 4);
+                self.config_read(0, 0x58, 1);
             }
             if self.random.one_in(2) {
                 self.read_after_reset();
@@ -425,9 +447,9 @@ impl<'m> Generator<'m> {
     }
 
     fn access_configuration(&mut self) {
-        const LISTED: [u32; 20] = [
-            0x00, 0x02, 0x04, 0x06, 0x08, 0x0B, 0x70, 0x72, 0x80, 0x92, 0x10, 0x14, 0x2C, 0x2E, 0x34, 0x3C, 0x3D, 0xDC,
-            0xDE, 0xE0,
+        const LISTED: [u32; 22] = [
+            0x00, 0x02, 0x04, 0x06, 0x08, 0x0B, 0x50, 0x58, 0x70, 0x72, 0x80, 0x92, 0x10, 0x14, 0x2C, 0x2E, 0x34, 0x3C,
+            0x3D, 0xDC, 0xDE, 0xE0,
         ];
         let device = match self.random.below(16) {
             0 => 2 + self.random.below(30),
@@ -516,6 +538,7 @@ impl<'m> Generator<'m> {
             0xB_0000,
             0xC_0000,
             0x10_0000,
+            HOLE,
             self.hub.usable_top(),
             self.hub.usable_top(),
             tom - smram.tseg_bytes(),
@@ -652,7 +675,7 @@ impl<'m> Generator<'m> {
         let page = match self.random.below(18) {
             0 => 0xA_0000 + self.random.below(128 * KIB),
             1 => self.random.pick(&[0x9_F000, 0xA_0000, 0xB_F000, 0xC_0000]),
-            2 => 0xC_0000 + self.random.below(256 * KIB),
+            2 => self.address_behind(),
             3 => usable - PAGE,
             4 => usable + self.random.below(tseg - usable),
             5 => tseg - PAGE,
@@ -935,6 +958,131 @@ impl<'m> Generator<'m> {
         }
     }
 
+    // Shadow memory and the hole --------------------------------------------------------------------
+
+    /// PAMR by one of the writes that touch it, and what it then reads.
+    fn set_pamr(&mut self) {
+        let (at, width) = self.random.pick(&[(0x51, 1), (0x51, 1), (0x51, 1), (0x50, 2), (0x51, 2), (0x50, 4)]);
+        let data = self.random.word();
+        self.config_write(0, at, width, data);
+        if self.random.one_in(6) {
+            self.config_read(0, at, width);
+        }
+    }
+
+    /// FDHC likewise, with any bits that it does not keep.
+    fn set_hole(&mut self) {
+        let width = self.random.pick(&[1, 1, 2, 4]);
+        let on = if self.random.one_in(3) { 0 } else { 0x80 };
+        let data = self.random.word() & !0x80 | on;
+        self.config_write(0, 0x58, width, data);
+        if self.random.one_in(6) {
+            self.config_read(0, 0x58, width);
+        }
+    }
+
+    /// An access of the processor or of a hub master.
+    fn access_by_any(&mut self, address: u32) {
+        if !self.random.one_in(4) {
+            return self.access(address);
+        }
+        let (address, width) = self.shape(address);
+        let data = self.random.word();
+        let write = self.random.one_in(2);
+        self.emit(if write { Record::master_write(address, width, data) } else { Record::master_read(address, width) });
+    }
+
+    /// One place in C0000h-FFFFFh, or beside it, read and written under one PAMR and another.
+    fn access_shadow(&mut self) {
+        let segment = SHADOW + 64 * KIB * self.random.below(4);
+        let address = match self.random.below(4) {
+            0 => segment + self.random.below(4),
+            1 => segment + 64 * KIB - 1 - self.random.below(4),
+            2 => self.random.pick(&[SHADOW - 1, SHADOW - 4, SHADOW + 256 * KIB]),
+            _ => segment + self.random.below(64 * KIB),
+        };
+        for _ in 0..2 {
+            if !self.random.one_in(3) {
+                self.set_pamr();
+            }
+            for _ in 0..1 + self.random.below(2) {
+                self.access_by_any(address);
+            }
+        }
+    }
+
+    /// One place in the hole, or beside it, read and written with the hole on and off. Registers or window may be there,
+    /// too, which memory hides.
+    fn access_hole(&mut self) {
+        let usable = self.hub.usable_top();
+        let address = match self.random.below(8) {
+            0 => HOLE - 4 + self.random.below(8),
+            1 => HOLE_END - 4 + self.random.below(8),
+            2 if (HOLE..HOLE_END).contains(&usable) => usable - 4 + self.random.below(8),
+            2 => HOLE_END + self.random.below(PAGE),
+            3 => self.hub.tom() - 1 - self.random.below(2 * MIB),
+            _ => HOLE + self.random.below(MIB),
+        };
+        let moved = self.random.one_in(4);
+        if moved {
+            let (register, base) = self.random.pick(&[(0x10, 0), (0x14, address & !(512 * KIB - 1))]);
+            self.config_write(1, register, 4, base);
+        }
+        for _ in 0..2 {
+            if !self.random.one_in(3) {
+                self.set_hole();
+            }
+            for _ in 0..1 + self.random.below(2) {
+                self.access_by_any(address);
+            }
+        }
+        if self.random.one_in(4) {
+            self.read_smram();
+        }
+        if moved {
+            self.set_bases();
+        }
+    }
+
+    /// An address that PAMR or the hole may keep direct accesses from.
+    fn address_behind(&mut self) -> u32 {
+        match self.hub.tom() > HOLE && self.random.one_in(2) {
+            true => HOLE + self.random.below(MIB),
+            false => SHADOW + self.random.below(256 * KIB),
+        }
+    }
+
+    /// A page there by an entry, for accesses through the window and for fetches, and a table word there.
+    fn reach_behind(&mut self) {
+        let address = self.address_behind();
+        match address < HOLE {
+            true => self.set_pamr(),
+            false => self.set_hole(),
+        }
+        let number = self.window_page() % TABLE_WORDS as u32;
+        let before = self.hub.register(0x2020).unwrap_or(0);
+        let moved = self.table_in_memory() && self.random.one_in(2);
+        if moved {
+            let base = (address & !(PAGE - 1)).wrapping_sub((4 * number) & !(PAGE - 1));
+            self.register_write(0x2020, 4, base | 1);
+            let entry = self.entry();
+            self.register_write(0x1_0000 + 4 * number, 4, entry);
+            self.register_read(0x1_0000 + 4 * number);
+        } else {
+            self.register_write(0x1_0000 + 4 * number, 4, address & !(PAGE - 1) | 1);
+        }
+        for _ in 0..1 + self.random.below(2) {
+            let offset = number * PAGE + self.random.below(PAGE);
+            self.access(self.hub.window_base().wrapping_add(offset));
+        }
+        if self.random.one_in(2) {
+            self.fetch_by(number);
+        }
+        if moved {
+            self.register_write(0x2020, 4, before);
+        }
+    }
+
     // The table in main memory --------------------------------------------------------------------
 
     fn table_in_memory(&self) -> bool {
@@ -970,7 +1118,7 @@ impl<'m> Generator<'m> {
         let base = match self.random.below(16) {
             0 => self.random.below(0xA_0000),
             1 => 0xA_0000 + self.random.below(128 * KIB),
-            2 => 0xC_0000 + self.random.below(256 * KIB),
+            2 => self.address_behind(),
             3 => usable + self.random.below(tseg - usable),
             4 => tseg + self.random.below(tom - tseg),
             // The table ends where memory does.

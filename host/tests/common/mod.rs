@@ -11,6 +11,7 @@ pub mod guarded;
 pub mod isolation;
 pub mod places;
 pub mod power;
+pub mod shadow;
 pub mod top;
 pub mod words;
 
@@ -21,6 +22,7 @@ use mitrophel::reference::{Observer, Rule, TableWord, Touch};
 use mitrophel::{call, record, reference, Answer, Board, Kind, Record, Refusal, Target};
 use places::Places;
 use power::Power;
+use shadow::Shadow;
 use std::fmt;
 use top::{Met, Top};
 use words::{Event, Words};
@@ -156,7 +158,9 @@ impl Observer for Watch {
         let landing = self.last.take();
         let (entry, touch) = (self.entry.take(), self.display_touch.take());
         let (meets, rule, word) = (&self.words.meets, self.words.rule(), self.words.word());
-        self.coverage.top.note(self.board, &Met { meets, rule, word, entry, landing, record, answer });
+        let met = Met { meets, rule, word, entry, landing, record, answer };
+        self.coverage.top.note(self.board, &met);
+        self.coverage.shadow.note(self.board, &met);
         let (writer, reopened) = (self.words.writer(), self.reopened);
         let forbidden = forbidden::Met { meets, rule, entry, writer, reopened, record, answer };
         self.coverage.forbidden.note(self.board, &forbidden);
@@ -179,7 +183,7 @@ impl Observer for Watch {
 }
 
 /// How often each kind, code, target, rule and event was seen, each place of a refusal, each write of a power state, and
-/// each thing that can be met of a display cache and of entries that are forbidden.
+/// each thing that can be met of a display cache, of entries that are forbidden, and of shadow memory and the hole.
 #[derive(Clone, Default)]
 pub struct Coverage {
     /// By kind; number 0 counts the records of no kind.
@@ -193,6 +197,7 @@ pub struct Coverage {
     pub power: Power,
     pub display: Display,
     pub forbidden: Forbidden,
+    pub shadow: Shadow,
     /// Counted by itself: only the largest memory can be asked for all of it.
     pub top: Top,
 }
@@ -206,7 +211,7 @@ impl Coverage {
         let codes = self.codes.iter().flatten();
         let counts = self.kinds.iter().chain(codes).chain(&self.targets).chain(&self.rules).chain(&self.events);
         let counts = counts.chain(self.places.counts()).chain(self.power.counts()).chain(self.display.counts());
-        counts.chain(self.forbidden.counts())
+        counts.chain(self.forbidden.counts()).chain(self.shadow.counts())
     }
 
     fn counts_mut(&mut self) -> impl Iterator<Item = &mut u64> {
@@ -219,6 +224,7 @@ impl Coverage {
             .chain(self.power.counts_mut())
             .chain(self.display.counts_mut())
             .chain(self.forbidden.counts_mut())
+            .chain(self.shadow.counts_mut())
     }
 
     /// What each of the counts is of; none for what cannot be.
@@ -233,7 +239,7 @@ impl Coverage {
         names.extend(Rule::ALL.iter().map(Rule::to_string).map(Some));
         names.extend(Event::ALL.iter().map(Event::to_string).map(Some));
         let names = names.into_iter().chain(Places::names()).chain(Power::names().into_iter().map(Some));
-        names.chain(Display::names()).chain(Forbidden::names()).collect()
+        names.chain(Display::names()).chain(Forbidden::names()).chain(Shadow::names()).collect()
     }
 
     /// Each count with its name.

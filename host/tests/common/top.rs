@@ -24,7 +24,7 @@ pub struct Met<'a> {
 
 impl Met<'_> {
     /// Whether one of these rules routed it.
-    fn by(&self, rules: &[Rule]) -> bool {
+    pub fn by(&self, rules: &[Rule]) -> bool {
         self.rule.is_some_and(|rule| rules.contains(&rule))
     }
 

@@ -87,8 +87,10 @@ pub struct Meets {
     pub fences: [u32; 8],
     /// Device 1's register E0h.
     pub pm_cs: u16,
-    /// SMRAM.
+    /// SMRAM, PAMR, and whether the hole is on.
     pub smram: u8,
+    pub pamr: u8,
+    pub hole: bool,
     /// The word whose register the record touches, as it is before, and where a table in main memory begins.
     pub held: Option<u32>,
     pub table: Option<u64>,
@@ -214,7 +216,9 @@ impl Words {
             let writer = match self.rule {
                 Some(Rule::Registers) => Event::ByRegister,
                 Some(Rule::Window) => Event::ByWindow,
-                Some(Rule::MasterLow | Rule::MasterCompatible | Rule::MasterMain) => Event::ByMaster,
+                Some(Rule::MasterLow | Rule::MasterCompatible | Rule::MasterShadow | Rule::MasterMain) => {
+                    Event::ByMaster
+                }
                 _ => Event::ByProcessor,
             };
             self.writers.insert(touch.address & !3, writer);
