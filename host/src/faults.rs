@@ -546,6 +546,166 @@ faults! {
     /// Board kinds 0 and 2 take a display cache of 4 MiB, too.
     DisplayLentToOthers,
 
+    // Shadow memory and the hole: request 8 of document 02.
+    /// C0000h-FFFFFh goes to the hub whatever PAMR holds, as document 01 has it.
+    ShadowIgnored,
+    /// The low bit of a pair is of writes, and the high bit of reads.
+    PairBitsExchanged,
+    /// Either bit of a pair opens its segment to reads and to writes.
+    EitherPairBitOpens,
+    /// A segment is open where both bits of its pair are set, and else shut.
+    BothPairBitsNeeded,
+    /// PAMR bits 7:6 are those of C0000h-CFFFFh, and 1:0 those of F0000h-FFFFFh.
+    SegmentsReversed,
+    /// PAMR bits 1:0 are those of D0000h-DFFFFh, and so on; C0000h-CFFFFh has 7:6.
+    SegmentsOneOff,
+    /// A segment has 32 KiB: the pairs end at DFFFFh.
+    SegmentsOf32KiB,
+    /// A segment has 16 KiB: the pairs end at CFFFFh.
+    SegmentsOf16KiB,
+    /// A segment's first page is of the segment before, that of C0000h-CFFFFh of the hub.
+    SegmentBeginsLate,
+    /// A segment's last page is of the next segment, that of F0000h-FFFFFh of the hub.
+    SegmentEndsEarly,
+    /// DC000h-DFFFFh goes to the hub whatever PAMR holds.
+    CdHoleActs,
+    /// D8000h-DFFFFh goes to the hub whatever PAMR holds.
+    D8HoleActs,
+    /// Code reads in C0000h-FFFFFh go to the hub.
+    CodeReadsNotShadowed,
+    /// Management mode reaches memory in C0000h-FFFFFh whatever PAMR holds.
+    ManagementAlwaysShadowed,
+    /// Accesses of management mode in C0000h-FFFFFh go to the hub.
+    ManagementNotShadowed,
+    /// Hub masters' accesses in C0000h-FFFFFh go to the hub.
+    MastersNotShadowed,
+    /// Hub masters reach memory in C0000h-FFFFFh whatever PAMR holds.
+    MastersAlwaysShadowed,
+    /// Hub masters' writes in C0000h-FFFFFh go to the hub.
+    MasterWritesNotShadowed,
+    /// A write in C0000h-FFFFFh that goes to the hub reaches memory, too.
+    HubWriteReachesMemory,
+    /// A read in C0000h-FFFFFh that goes to the hub has the value of memory.
+    HubReadGivesMemory,
+    /// An access that reaches memory in C0000h-FFFFFh has target 3.
+    ShadowAnsweredAsHub,
+    /// An access that reaches memory in C0000h-FFFFFh shows its offset from C0000h.
+    ShadowShowsOffset,
+    /// C0000h-FFFFFh reaches the last 256 KiB of memory.
+    ShadowAtTop,
+    /// An access in C0000h-FFFFFh that goes to the hub sets the error bit.
+    ShadowHubSetsError,
+    /// A0000h-BFFFFh obeys PAMR bits 1:0 where it is not memory by rule 2.
+    PamrCoversCompatible,
+    /// PAMR bits 1:0 steer the 64 KiB from 100000h on, too.
+    PamrCovers64KiBMore,
+    /// PAMR is not written once SMRAM is locked.
+    PamrLocked,
+    /// PAMR keeps bits 5:4 and 1:0.
+    PamrKeeps33,
+    /// PAMR keeps bits 5:0.
+    PamrKeeps3F,
+    /// PAMR is FFh at cold start and after a reset.
+    PamrDefaultsToFF,
+    /// PAMR is 33h at cold start and after a reset.
+    PamrDefaultsTo33,
+    /// PAMR and FDHC take writes of one byte alone.
+    ShadowRegistersTakeOneByte,
+    /// Reset leaves PAMR.
+    ResetKeepsPamr,
+    /// Register 50h of device 0 keeps what is written.
+    Register50Stored,
+    /// Register 50h of device 0 reads 60h.
+    Register50Reads60,
+    /// A segment whose pair is 01 is protected.
+    ReadOnlySegmentProtected,
+    /// A read through the window of a page in C0000h-FFFFFh goes to the hub where PAMR sends reads there.
+    WindowReadObeysPamr,
+    /// A write through the window to a page in C0000h-FFFFFh goes to the hub where PAMR sends writes there.
+    WindowWriteObeysPamr,
+    /// The parser's fetch in C0000h-FFFFFh gets 0 where reads go to the hub.
+    FetchObeysPamr,
+    /// A lookup by a table word in C0000h-FFFFFh gets 0 where reads go to the hub.
+    LookupObeysPamr,
+    /// A register access to a table word in C0000h-FFFFFh is not carried out there where PAMR sends it to the hub.
+    WordRegisterObeysPamr,
+    /// There is no hole, whatever FDHC holds.
+    HoleIgnored,
+    /// The hole is E00000h-EFFFFFh.
+    HoleAt14MiB,
+    /// The hole is 1000000h-10FFFFFh.
+    HoleAt16MiB,
+    /// The hole is E00000h-FFFFFFh.
+    HoleOf2MiB,
+    /// The hole is F00000h-F7FFFFh.
+    HoleOf512KiB,
+    /// The hole begins one page late.
+    HoleBeginsLate,
+    /// The hole begins one page early.
+    HoleBeginsEarly,
+    /// The hole ends one page early.
+    HoleEndsEarly,
+    /// The hole ends one page late.
+    HoleEndsLate,
+    /// Memory ends where the hole begins: F00000h up to U goes to the hub.
+    HoleEndsMemory,
+    /// While there is a hole, an address from 16 MiB up to U reaches memory 1 MiB lower.
+    HoleRemapped,
+    /// The hole acts on reads alone.
+    HoleForReadsOnly,
+    /// The hole acts on writes alone.
+    HoleForWritesOnly,
+    /// The hole does not act on code reads.
+    HoleNotForCode,
+    /// The hole does not act in management mode.
+    HoleNotForManagement,
+    /// The hole does not act on hub masters.
+    HoleNotForMasters,
+    /// The hole acts on hub masters alone.
+    HoleForMastersOnly,
+    /// A hub master's access in the hole has target 0.
+    MasterHoleUnanswered,
+    /// The hole acts on the TSEG.
+    HoleOverTseg,
+    /// The hole acts on addresses at or above TOM.
+    HoleAboveMemory,
+    /// An address in the hole falls through to rules 6 to 9.
+    HoleFallsThrough,
+    /// An access of the processor in the hole sets the error bit.
+    HoleSetsError,
+    /// A hub master's access in the hole sets the error bit.
+    MasterHoleSetsError,
+    /// A write in the hole reaches memory, too.
+    HoleWriteReachesMemory,
+    /// A read in the hole has the value of memory.
+    HoleReadGivesMemory,
+    /// FDHC keeps all bits.
+    HoleKeepsAllBits,
+    /// FDHC keeps bit 0, which makes the hole.
+    HoleByBit0,
+    /// FDHC bit 7 is set by any write that is not 0.
+    HoleByAnyBit,
+    /// FDHC is not written once SMRAM is locked.
+    HoleLocked,
+    /// FDHC is 80h at cold start and after a reset.
+    HoleByDefault,
+    /// Reset leaves FDHC.
+    ResetKeepsHole,
+    /// The hole is protected.
+    HoleProtected,
+    /// An entry whose page is in the hole is refused with code 7.
+    HolePageRefused,
+    /// A read through the window of a page in the hole goes to the hub.
+    WindowReadObeysHole,
+    /// A write through the window to a page in the hole goes to the hub.
+    WindowWriteObeysHole,
+    /// The parser's fetch in the hole gets 0.
+    FetchObeysHole,
+    /// A lookup by a table word in the hole gets 0.
+    LookupObeysHole,
+    /// A register access to a table word in the hole is not carried out there.
+    WordRegisterObeysHole,
+
     // Fences.
     /// The highest matching fence wins.
     HighestFenceWins,

@@ -322,11 +322,13 @@ impl<'m, O: Observer, F: Faults> Gmch<'m, O, F> {
             self.clear_display();
         }
         let (smram, table_control, pm_cs) = (self.smram(), self.table_control, self.pm_cs());
+        let (pamr, hole) = (self.pamr(), self.hole());
         let in_memory = self.table_in_memory();
         if in_memory && self.wrong(Fault::ResetClearsWords) {
             self.clear_words();
         }
         self.restore_defaults();
+        self.put_back_shadow(pamr, hole);
         if in_memory && self.wrong(Fault::ResetKeepsTableControl) {
             self.table_control = table_control;
         }
@@ -352,6 +354,7 @@ impl<'m, O: Observer, F: Faults> Gmch<'m, O, F> {
             board => board,
         };
         self.devices = [default_bytes(board, 0), default_bytes(board, 1)];
+        self.put_wrong_defaults();
         self.subsystem_written = 0;
         self.fences = [Fence(0); 8];
         self.table_control = 0;

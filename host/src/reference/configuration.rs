@@ -30,7 +30,7 @@ const DEVICE_0: [Row; 12] = [
     row(0x08, 1, 0x02, 0, 0),
     row(0x0B, 1, 0x06, 0, 0),
     row(PAMR, 1, 0x00, 0xFF, 0),
-    row(FDHC, 1, 0x00, HOLE, 0),
+    row(FDHC, 1, 0x00, HOLE as u32, 0),
     row(SMRAM, 1, 0x00, 0xFE, 0x01),
     row(MISCC, 2, 0x0000, 0x0001, 0),
     row(0x80, 1, 0x00, 0xFF, 0),
@@ -69,7 +69,7 @@ const PAMR: usize = 0x51;
 /// The datasheet's fixed hole, section 3.4.17. Its bits 6:0 are "Reserved" and read 0, as unnamed bits do.
 const FDHC: usize = 0x58;
 /// "Hole Enable (HEN)", bit 7 of FDHC.
-const HOLE: u32 = 0x80;
+const HOLE: u8 = 0x80;
 const SMRAM: usize = 0x70;
 const MISCC: usize = 0x72;
 const COMMAND: usize = 0x04;
@@ -299,6 +299,9 @@ impl<O: Observer, F: Faults> Gmch<'_, O, F> {
             let mut plain = LAYOUTS[device].plain[at];
             let mut clears = LAYOUTS[device].clears[at];
             match (device, at) {
+                (0, 0x50) if self.wrong(Fault::Register50Stored) => plain = 0xFF,
+                (0, PAMR) => plain = self.pamr_mask(width, plain),
+                (0, FDHC) => (byte, plain) = self.fdhc_mask(byte, width, plain),
                 (0, SMRAM) => (plain, clears) = self.smram_masks(byte, plain, clears),
                 (1, 0x2C..=0x2F) => {
                     plain = self.subsystem_mask(at - 0x2C, written);
@@ -313,6 +316,38 @@ impl<O: Observer, F: Faults> Gmch<'_, O, F> {
         }
         if self.wrong(Fault::LockDropsEntries) && !locked && self.smram().locked() {
             self.drop_forbidden();
+        }
+    }
+
+    /// PAMR's plain bits for a write of this width: all, locked or not. Only wrong references look at more.
+    fn pamr_mask(&self, width: usize, plain: u8) -> u8 {
+        if self.wrong(Fault::PamrLocked) && self.smram().locked()
+            || self.wrong(Fault::ShadowRegistersTakeOneByte) && width != 1
+        {
+            0
+        } else if self.wrong(Fault::PamrKeeps33) {
+            0x33
+        } else if self.wrong(Fault::PamrKeeps3F) {
+            0x3F
+        } else {
+            plain
+        }
+    }
+
+    /// FDHC's byte as written, and its plain bits: bit 7 alone, locked or not. Only wrong references look at more.
+    fn fdhc_mask(&self, byte: u8, width: usize, plain: u8) -> (u8, u8) {
+        if self.wrong(Fault::HoleLocked) && self.smram().locked()
+            || self.wrong(Fault::ShadowRegistersTakeOneByte) && width != 1
+        {
+            (byte, 0)
+        } else if self.wrong(Fault::HoleKeepsAllBits) {
+            (byte, 0xFF)
+        } else if self.wrong(Fault::HoleByBit0) {
+            (byte, 0x01)
+        } else if self.wrong(Fault::HoleByAnyBit) {
+            (if byte == 0 { 0 } else { 0xFF }, plain)
+        } else {
+            (byte, plain)
         }
     }
 
@@ -385,6 +420,32 @@ impl<O: Observer, F: Faults> Gmch<'_, O, F> {
         let passed_over = access.data.is_some() && self.wrong(Fault::ErrorForReadsOnly);
         if !frozen && !passed_over {
             self.devices[0][SMRAM] |= Smram::ERROR;
+        }
+    }
+
+    /// What only wrong references have in device 0 at cold start and after a reset.
+    pub(super) fn put_wrong_defaults(&mut self) {
+        if self.wrong(Fault::PamrDefaultsToFF) {
+            self.devices[0][PAMR] = 0xFF;
+        }
+        if self.wrong(Fault::PamrDefaultsTo33) {
+            self.devices[0][PAMR] = 0x33;
+        }
+        if self.wrong(Fault::HoleByDefault) {
+            self.devices[0][FDHC] = HOLE;
+        }
+        if self.wrong(Fault::Register50Reads60) {
+            self.devices[0][0x50] = 0x60;
+        }
+    }
+
+    /// Puts PAMR and FDHC back after a reset ([`Fault::ResetKeepsPamr`], [`Fault::ResetKeepsHole`]).
+    pub(super) fn put_back_shadow(&mut self, pamr: u8, hole: bool) {
+        if self.wrong(Fault::ResetKeepsPamr) {
+            self.devices[0][PAMR] = pamr;
+        }
+        if self.wrong(Fault::ResetKeepsHole) && hole {
+            self.devices[0][FDHC] = HOLE;
         }
     }
 
@@ -464,7 +525,8 @@ impl<O: Observer, F: Faults> Gmch<'_, O, F> {
     /// ```
     #[inline]
     pub fn hole(&self) -> bool {
-        u32::from(self.devices[0][FDHC]) & HOLE != 0
+        let bit = if self.wrong(Fault::HoleByBit0) { 0x01 } else { HOLE };
+        self.devices[0][FDHC] & bit != 0
     }
 
     /// "Register 72 bit 0: window 32 MiB if 1, else 64."

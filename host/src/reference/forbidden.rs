@@ -177,7 +177,10 @@ impl<O: Observer, F: Faults> Gmch<'_, O, F> {
             _ => false,
         };
         let by_rules_1_and_4 = || !matches!(access.address, 0xA_0000..=0xF_FFFF) && access.address < self.usable_top();
-        refuses && by_rules_1_and_4() && self.makes_forbidden_word(access.address, access)
+        refuses
+            && by_rules_1_and_4()
+            && !self.in_hole(access, Mode::Master)
+            && self.makes_forbidden_word(access.address, access)
     }
 
     /// Whether a write of four bytes that lands here makes a forbidden entry of a table word. Only wrong references ask.

@@ -103,7 +103,8 @@ impl<O: Observer, F: Faults> Gmch<'_, O, F> {
             Place::Memory(address) => self.observer.touched(touch(address, self.protected(address))),
             Place::DisplayCache(address) => self.observer.display_touched(touch(address, false)),
         }
-        self.execute(self.word(place))?;
+        let word = if self.fetch_kept_from(place) { 0 } else { self.word(place) };
+        self.execute(word)?;
         self.advance();
         Ok(true)
     }

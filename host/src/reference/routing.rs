@@ -14,7 +14,7 @@ pub(super) enum Mode {
 
 /// Where routing takes an address.
 #[derive(Clone, Copy, PartialEq, Eq)]
-enum Route {
+pub(super) enum Route {
     /// Main memory, at this physical address.
     Memory(u32),
     /// The hub, with the record's address.
@@ -35,12 +35,15 @@ impl<O: Observer, F: Faults> Gmch<'_, O, F> {
     pub(super) fn addressed(&mut self, access: Access, mode: Mode) -> Result<Answer, Refused> {
         let (rule, route) = match mode {
             Mode::Processor { management, code } => self.route_processor(access, management, code),
-            Mode::Master => self.route_master(access.address, access.data.is_some()),
+            Mode::Master => self.route_master(access),
         };
         self.observer.routed(rule);
         match route {
-            Route::Memory(address) => Ok(self.memory_access(address, access)),
-            Route::Hub => Ok(reached(Target::Hub, access.address, 0)),
+            Route::Memory(address) => {
+                let answer = self.memory_access(address, access);
+                Ok(self.show_shadow(rule, access, answer))
+            }
+            Route::Hub => Ok(self.hub_access(rule, access)),
             Route::HubWithError => {
                 self.set_error(access);
                 Ok(reached(Target::Hub, access.address, 0))
@@ -85,17 +88,23 @@ impl<O: Observer, F: Faults> Gmch<'_, O, F> {
     /// are those of request 8: shadow memory "in the places of rules 3 and 4".
     #[inline]
     fn route_processor(&self, access: Access, management: bool, code: bool) -> (Rule, Route) {
+        let mode = Mode::Processor { management, code };
         match access.address {
             address @ 0..=0x9_FFFF => (Rule::Low, Route::Memory(address)),
             address @ 0xA_0000..=0xB_FFFF => self.route_compatible(address, management, code, access.data.is_some()),
-            address @ 0xC_0000..=0xF_FFFF => match self.shadowed(address, access.data.is_some()) {
-                true => (Rule::ShadowMemory, Route::Memory(address)),
-                false => (Rule::ShadowHub, Route::Hub),
+            0xC_0000..=0xF_FFFF => match self.route_shadow(access, mode) {
+                Some(memory) => (Rule::ShadowMemory, memory),
+                None if self.wrong(Fault::ShadowHubSetsError) => (Rule::ShadowHub, Route::HubWithError),
+                None => (Rule::ShadowHub, Route::Hub),
             },
             address if self.over_memory(address) => self.route_graphics(address),
-            address if address < self.usable_top() => match self.in_hole(address) {
-                true => (Rule::Hole, Route::Hub),
-                false => (Rule::Main, Route::Memory(address)),
+            address if self.hole_past_top(access, mode) => self.route_hole(address),
+            address if address < self.usable_top() => match self.in_hole(access, mode) {
+                true => self.route_hole(address),
+                false => match self.pamr_beside(address, access.data.is_some()) {
+                    Some(false) => (Rule::Main, Route::Hub),
+                    _ => (Rule::Main, self.main_memory(address)),
+                },
             },
             address if address < self.tom => self.route_top(address, management),
             address @ 0xFEEA_0000..=0xFEEB_FFFF if self.hseg_acts() => match management {
@@ -118,7 +127,7 @@ impl<O: Observer, F: Faults> Gmch<'_, O, F> {
             Lsmm::ManagementCodeReads => management && code && !self.wrong(Fault::ManagementCodeReadsShut),
             Lsmm::ManagementAll => management,
         };
-        if memory {
+        if memory || self.pamr_beside(address, write) == Some(true) {
             (Rule::CompatibleMemory, Route::Memory(address))
         } else if smram.graphics_on() || self.wrong(Fault::VgaWithoutGraphics) {
             (Rule::CompatibleVga, Route::Vga(address - 0xA_0000))
@@ -155,7 +164,7 @@ impl<O: Observer, F: Faults> Gmch<'_, O, F> {
     /// Rules 7 to 9: "512 KiB at MMADR, 8. the window at GMADR", "9. hub". Both bases are multiples
     /// of the sizes, so a difference below the size is inside, also at the end of the 4 GiB.
     #[inline]
-    fn route_graphics(&self, address: u32) -> (Rule, Route) {
+    pub(super) fn route_graphics(&self, address: u32) -> (Rule, Route) {
         let register = address.wrapping_sub(self.registers_base());
         let window = address.wrapping_sub(self.window_base());
         let ignored = self.window_base() == 0 && self.wrong(Fault::WindowAtZeroIgnored);
@@ -173,7 +182,8 @@ impl<O: Observer, F: Faults> Gmch<'_, O, F> {
     /// "Hub masters: memory by rules 1, 4 and by 2 with LSMM 01; else hub, no error bit." Request 8 of document 02 has
     /// rules 3 and 4 for "processor and hub master accesses" alike.
     #[inline]
-    fn route_master(&self, address: u32, write: bool) -> (Rule, Route) {
+    fn route_master(&self, access: Access) -> (Rule, Route) {
+        let address = access.address;
         let opened = match self.smram().lsmm() {
             Lsmm::General => true,
             Lsmm::ManagementAll => self.wrong(Fault::MastersReachManagementMemory),
@@ -182,11 +192,15 @@ impl<O: Observer, F: Faults> Gmch<'_, O, F> {
         match address {
             0..=0x9_FFFF => (Rule::MasterLow, Route::Memory(address)),
             0xA_0000..=0xB_FFFF if opened => (Rule::MasterCompatible, Route::Memory(address)),
-            0xC_0000..=0xF_FFFF if self.shadowed(address, write) => (Rule::MasterShadow, Route::Memory(address)),
+            0xC_0000..=0xF_FFFF => match self.route_shadow(access, Mode::Master) {
+                Some(memory) => (Rule::MasterShadow, memory),
+                None => (Rule::MasterHub, Route::Hub),
+            },
             0x2000_0000.. if self.wrong(Fault::MastersBelow512Mib) => (Rule::MasterHub, Route::Hub),
-            0x10_0000.. if address < self.usable_top() => match self.in_hole(address) {
+            0x10_0000.. if address < self.usable_top() => match self.in_hole(access, Mode::Master) {
+                true if self.wrong(Fault::MasterHoleSetsError) => (Rule::MasterHole, Route::HubWithError),
                 true => (Rule::MasterHole, Route::Hub),
-                false => (Rule::MasterMain, Route::Memory(address)),
+                false => (Rule::MasterMain, self.main_memory(address)),
             },
             _ if self.wrong(Fault::ErrorForMasters) && self.in_tseg(address) => (Rule::MasterHub, Route::HubWithError),
             _ => (Rule::MasterHub, Route::Hub),
@@ -224,7 +238,9 @@ impl<O: Observer, F: Faults> Gmch<'_, O, F> {
         if self.wrong(Fault::ProtectedOnlyWhenLocked) && !smram.locked() {
             return false;
         }
-        if self.wrong(Fault::TakenMemoryProtected) && (self.usable_top()..self.tom).contains(&address) {
+        if self.wrong(Fault::TakenMemoryProtected) && (self.usable_top()..self.tom).contains(&address)
+            || self.protected_by_shadow(address)
+        {
             return true;
         }
         let closed = matches!(smram.lsmm(), Lsmm::ManagementCodeReads | Lsmm::ManagementAll) || self.hseg_acts();

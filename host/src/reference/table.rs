@@ -148,6 +148,7 @@ impl<O: Observer, F: Faults> Gmch<'_, O, F> {
         let word = self.reach_word(number, WordUse::Lookup).map(|address| {
             match self.wrong(Fault::LookupsSeeRegisterWritesOnly) {
                 true => self.table[number],
+                false if self.lookup_kept_from(address) => 0,
                 false => self.word_at(address),
             }
         });
@@ -171,6 +172,7 @@ impl<O: Observer, F: Faults> Gmch<'_, O, F> {
         }
         let place = self.reach_word(number, WordUse::of(access));
         let result = place.and_then(|address| match access.data {
+            _ if self.register_kept_from(address, access.data.is_some()) => Ok(0),
             None if self.wrong(Fault::MemoryWordReadMasked) => Ok(self.word_at(address) & ENTRY_BITS),
             None => Ok(self.word_at(address)),
             Some(data) => self.write_word(number, address, data, mode),

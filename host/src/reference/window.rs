@@ -1,9 +1,9 @@
 //! The window: fences and translation (document 01, "Table, fences, ring, interrupts").
 
 use super::routing::Mode;
-use super::{Access, Gmch, Observer, Place, Refused, WordUse, KIB, MIB};
+use super::{reached, Access, Gmch, Observer, Place, Refused, WordUse, KIB, MIB};
 use crate::faults::{Fault, Faults};
-use crate::record::{Answer, Refusal};
+use crate::record::{Answer, Refusal, Target};
 
 /// A fence register.
 ///
@@ -115,6 +115,7 @@ impl<O: Observer, F: Faults> Gmch<'_, O, F> {
             {
                 return Err(Refused { refusal: Refusal::ForbiddenEntry, offset });
             }
+            Place::Memory(address) if self.window_kept_from(address, access) => reached(Target::Hub, access.address, 0),
             Place::Memory(address) => self.memory_access(address, access),
             Place::DisplayCache(address) => self.display_access(address, access),
         })
@@ -261,7 +262,7 @@ impl<O: Observer, F: Faults> Gmch<'_, O, F> {
         } else {
             self.top_unless(Fault::HighPageRefused)
         };
-        if page >= top {
+        if page >= top || self.refuses_page_in_hole(page) {
             return Err(Refusal::PageAboveMemory);
         }
         let tested = if self.wrong(Fault::ProtectionOfOffset) {
