@@ -257,3 +257,48 @@ impl<O: Observer, F: Faults> Gmch<'_, O, F> {
         self.keeps_from(address, write, Fault::WordRegisterObeysPamr, Fault::WordRegisterObeysHole)
     }
 }
+
+#[cfg(test)]
+mod tests {
+    use super::super::TABLE_WORDS;
+    use super::*;
+    use crate::{Board, Record};
+
+    /// The rule by which the last record was routed.
+    struct Last(Option<Rule>);
+
+    impl Observer for Last {
+        fn routed(&mut self, rule: Rule) {
+            self.0 = Some(rule);
+        }
+    }
+
+    /// Segment C is open to reads, segment D to writes, and the hole is on.
+    #[test]
+    fn the_rule_told_says_where_an_access_went() {
+        let (mut memory, mut table) = (vec![0; 16 << 20], Box::new([0; TABLE_WORDS]));
+        let hub = Gmch::observed(Board::I82810, &mut memory, &mut table, &mut [], Last(None));
+        let mut hub = hub.expect("16 MiB is a memory");
+        for (register, data) in [(0x50, 0b1001 << 8), (0x58, 0x80)] {
+            hub.answer(&Record::io_write(0xCF8, 4, 0x8000_0000 | register));
+            hub.answer(&Record::io_write(0xCFC, 4, data));
+        }
+        for (address, read, write, by_master) in [
+            (0xC_FFFC, Rule::ShadowMemory, Rule::ShadowHub, [Rule::MasterShadow, Rule::MasterHub]),
+            (0xD_0000, Rule::ShadowHub, Rule::ShadowMemory, [Rule::MasterHub, Rule::MasterShadow]),
+            (0xEF_FFFC, Rule::Main, Rule::Main, [Rule::MasterMain; 2]),
+            (0xF0_0000, Rule::Hole, Rule::Hole, [Rule::MasterHole; 2]),
+        ] {
+            for (record, rule) in [
+                (Record::read(address, 4, false), read),
+                (Record::code_read(address, 4, true), read),
+                (Record::write(address, 4, 7, false), write),
+                (Record::master_read(address, 4), by_master[0]),
+                (Record::master_write(address, 4, 7), by_master[1]),
+            ] {
+                hub.answer(&record);
+                assert_eq!(hub.observer().0.take(), Some(rule), "{record}");
+            }
+        }
+    }
+}
