@@ -8,7 +8,8 @@
 //! run, says which accesses land in protected memory. Where the table is in main memory, request 10 of
 //! document 02 has demand 3 read "table words in unprotected memory": these are bytes of unprotected
 //! memory, which is equal at the lock. Request 11: "Demand 3 counts this memory", the display cache, "as
-//! unprotected, equal at the start"; it is equal at the end, too.
+//! unprotected, equal at the start"; it is equal at the end, too. Request 8: "demand 3 stands", with any value in PAMR
+//! and FDHC at the lock and with any written later, since the lock holds neither.
 
 use super::compare::{range, undo};
 use super::generate::{board, pristine_display, pristine_memory, table, Generator};
@@ -43,6 +44,10 @@ pub struct Tally {
     pub discarded_states: u64,
     /// Accesses and fetches that reached the display cache.
     pub display: u64,
+    /// Accesses in C0000h-FFFFFh that went to the hub and to memory, and those that met the hole.
+    pub shadow: [u64; 3],
+    /// Writes that changed PAMR and FDHC.
+    pub steered: [u64; 2],
     /// Parser runs that completed a step.
     pub runs: u64,
 }
@@ -231,6 +236,14 @@ impl Trial {
             *count += refused - before;
         }
         tally.display += watch.coverage.display.reached() - prefix_coverage.display.reached();
+        let (shadow, before) = (&watch.coverage.shadow, &prefix_coverage.shadow);
+        for (count, (seen, before)) in tally.shadow.iter_mut().zip(shadow.seen().into_iter().zip(before.seen())) {
+            *count += seen - before;
+        }
+        let changed = shadow.changed_when_locked().into_iter().zip(before.changed_when_locked());
+        for (count, (changed, before)) in tally.steered.iter_mut().zip(changed) {
+            *count += changed - before;
+        }
         let (shown, before) = (watch.coverage.places.shown(), prefix_coverage.places.shown());
         for (count, (shown, before)) in tally.shown_offsets.iter_mut().zip(shown.into_iter().zip(before)) {
             *count += shown - before;
