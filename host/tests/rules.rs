@@ -191,6 +191,9 @@ fn every_configuration_word_has_its_default_and_its_writable_bits() {
         (0x00, 0x7120_8086, 0x7120_8086, 0x7120_8086),
         (0x04, 0x0080_0006, 0x0080_0106, 0x0080_0006),
         (0x08, 0x0600_0002, 0x0600_0002, 0x0600_0002),
+        // PAMR at 51h and FDHC at 58h: request 8 of document 02.
+        (0x50, 0x0000_0000, 0x0000_FF00, 0x0000_0000),
+        (0x58, 0x0000_0000, 0x0000_0080, 0x0000_0000),
         (0x70, 0x0000_0000, 0x0001_00FE, 0x0000_00FE),
         (0x80, 0x0000_0000, 0x0000_00FF, 0x0000_0000),
         (0x90, 0xFFFF_0000, 0xFFFF_0000, 0x0000_0000),
@@ -372,7 +375,8 @@ fn under(smram: u8, record: Record) -> (Answer, bool) {
     (answers[asked], answers[error].value & 1 != 0)
 }
 
-/// Rules 1, 3 and 4, which no mode and no initiator changes.
+/// Rules 1, 3 and 4, which no mode and no initiator changes. Rule 3 is the hub as long as PAMR is 00h, and rule 4 memory as
+/// long as there is no hole: request 8 of document 02 has the rest.
 #[test]
 fn ordinary_memory_and_the_bios_range_are_the_same_for_all() {
     for smram in [0x00, 0x40, 0x70, 0x4C] {
