@@ -178,6 +178,17 @@ fn plain_access(random: &mut Random, write: bool) -> Load {
     Load { name, unit: "record", board: PRIVATE, memory: noise, records }
 }
 
+/// Reads of main memory from this address on, with a register of device 0 written before: PAMR or FDHC.
+fn steered_reads(name: &'static str, register: (u32, u32), from: u32, bytes: u32, random: &mut Random) -> Load {
+    let mut records = Vec::new();
+    config(&mut records, 0, register.0, 1, register.1);
+    for _ in 0..WORK {
+        let (offset, width) = random.place(bytes);
+        records.push(Record::read(from + offset, width, false));
+    }
+    Load { name, unit: "record", board: PRIVATE, memory: noise, records }
+}
+
 /// Everything, about as often as each comes in a driver's life.
 fn mixed(random: &mut Random) -> Load {
     let mut records = setup(PRIVATE, 1024);
@@ -241,6 +252,8 @@ fn loads() -> Vec<Load> {
         runs("mixed opcodes, whole ring, display cache", CACHED, mixed_opcodes, u32::MAX, 2),
         locked_table_writes("table writes, locked", PRIVATE, random),
         locked_table_writes("table writes, locked, table in memory", MAIN, random),
+        steered_reads("shadow reads", (0x51, 0x55), 0xC_0000, 256 << 10, random),
+        steered_reads("memory reads, hole on", (0x58, 0x80), 1 << 20, 7 << 20, random),
     ]
 }
 
