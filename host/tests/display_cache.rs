@@ -4,7 +4,7 @@
 
 mod common;
 
-use common::{blank_display, ran, reached, refused, refused_at, replay_with_display, Script, MIB};
+use common::{blank_display, mapped, ran, reached, refused, refused_at, replay_with_display, Script, MIB};
 use mitrophel::{call, record, reference, replay, Answer, Board, Record, Target, WrongArgument, DISPLAY_BYTES};
 
 /// Where the display cache ends.
@@ -23,10 +23,6 @@ const IN_CACHE: u8 = 0xDC;
 
 fn cached(address: u32, value: u32) -> Answer {
     reached(Target::DisplayCache, address, value)
-}
-
-fn mapped(offset: u32, value: u32) -> Answer {
-    reached(Target::MemoryMapped, offset, value)
 }
 
 /// Graphics on, translation on.

@@ -4,7 +4,7 @@
 
 mod common;
 
-use common::{ran, reached, refused, refused_at, register_width, replay_both, Script, MIB};
+use common::{mapped, ran, reached, refused, refused_at, register_width, replay_both, Script, MIB};
 use mitrophel::{Answer, Record, Target};
 
 const TOP: u32 = 8 << 20;
@@ -37,10 +37,6 @@ const GUARDS: [(u8, &[u32]); 9] = [
     (0x6C, &[0xA_0000, 0xB_F000, 0x78_0000, 0x7F_F000]),
     (0x7C, &[0xA_0000, 0xB_F000, 0x70_0000, 0x7F_F000]),
 ];
-
-fn mapped(offset: u32, value: u32) -> Answer {
-    reached(Target::MemoryMapped, offset, value)
-}
 
 fn memory(address: u32) -> Answer {
     reached(Target::Memory, address, 0)

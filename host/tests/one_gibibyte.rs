@@ -10,7 +10,8 @@ use common::compare::{range, undo, Lists};
 use common::guarded::{ends_of_tables, Guarded, Side, PAGE};
 use common::isolation::two_runs_on_zeros;
 use common::{
-    blank_display, is_answered, lists, ran, reached, refused, refused_at, seed, Coverage, Script, Watch, MIB,
+    blank_display, hub, is_answered, lists, mapped, ran, reached, refused, refused_at, seed, Coverage, Script, Watch,
+    MIB,
 };
 use mitrophel::faults::Faultless;
 use mitrophel::reference::{self, replay_with, Touch};
@@ -104,14 +105,6 @@ impl Memories {
 
 fn memory(address: u32) -> Answer {
     reached(Target::Memory, address, 0)
-}
-
-fn hub(address: u32) -> Answer {
-    reached(Target::Hub, address, 0)
-}
-
-fn mapped(offset: u32, value: u32) -> Answer {
-    reached(Target::MemoryMapped, offset, value)
 }
 
 /// The register of word `number`.

@@ -3,25 +3,13 @@
 
 mod common;
 
-use common::{ran, reached, refused, refused_at, replay_both, Script, MIB};
+use common::{hub, mapped, ran, reached, refused, refused_at, register, replay_both, Script, MIB};
 use mitrophel::{Answer, Kind, Record, Target};
 
 const TOP: u32 = 8 << 20;
 
-fn hub(address: u32) -> Answer {
-    reached(Target::Hub, address, 0)
-}
-
 fn memory(address: u32) -> Answer {
     reached(Target::Memory, address, 0)
-}
-
-fn register(address: u32, value: u32) -> Answer {
-    reached(Target::Register, address, value)
-}
-
-fn mapped(offset: u32, value: u32) -> Answer {
-    reached(Target::MemoryMapped, offset, value)
 }
 
 /// The answers to these records on 8 MiB of zeros.

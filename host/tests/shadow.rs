@@ -3,7 +3,7 @@
 
 mod common;
 
-use common::{ran, reached, replay_both, Script, MIB};
+use common::{hub, mapped, ran, reached, register, replay_both, Script, MIB};
 use mitrophel::reference::{Gmch, TABLE_WORDS};
 use mitrophel::{Answer, Board, Kind, Record, Target};
 use std::ops::Range;
@@ -56,23 +56,11 @@ fn is_master(record: &Record) -> bool {
     matches!(record.kind(), Some(Kind::MasterRead | Kind::MasterWrite))
 }
 
-fn hub(address: u32) -> Answer {
-    reached(Target::Hub, address, 0)
-}
-
 fn memory(address: u32, value: u32) -> Answer {
     reached(Target::Memory, address, value)
 }
 
-fn register(address: u32, value: u32) -> Answer {
-    reached(Target::Register, address, value)
-}
-
-fn mapped(offset: u32, value: u32) -> Answer {
-    reached(Target::MemoryMapped, offset, value)
-}
-
-/// A memory in which no two neighbours hold the same byte, and none holds 0.
+/// A memory that holds no 0, with bytes that mostly differ from those beside them.
 fn full(bytes: usize) -> Vec<u8> {
     (0..bytes).map(|at| (at ^ at >> 8 ^ at >> 16) as u8 % 251 + 1).collect()
 }

@@ -3,7 +3,7 @@
 
 mod common;
 
-use common::{ran, reached, refused, refused_at, replay_both, Script, MIB};
+use common::{mapped, ran, reached, refused, refused_at, replay_both, Script, MIB};
 use mitrophel::{Answer, Record, Target};
 
 const TOP: u32 = 8 << 20;
@@ -15,10 +15,6 @@ const LOCK: u8 = 0x02;
 
 fn memory(address: u32) -> Answer {
     reached(Target::Memory, address, 0)
-}
-
-fn mapped(offset: u32, value: u32) -> Answer {
-    reached(Target::MemoryMapped, offset, value)
 }
 
 /// The register of word `number`.

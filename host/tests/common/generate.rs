@@ -611,13 +611,17 @@ impl<'m> Generator<'m> {
             3 => self.hub.window_base().wrapping_add(self.random.below(64 * MIB)),
             _ => self.border(),
         };
+        self.master_access(address);
+        if self.random.one_in(4) {
+            self.read_smram();
+        }
+    }
+
+    fn master_access(&mut self, address: u32) {
         let (address, width) = self.shape(address);
         let data = self.random.word();
         let write = self.random.one_in(2);
         self.emit(if write { Record::master_write(address, width, data) } else { Record::master_read(address, width) });
-        if self.random.one_in(4) {
-            self.read_smram();
-        }
     }
 
     // The window --------------------------------------------------------------------------------
@@ -983,13 +987,10 @@ impl<'m> Generator<'m> {
 
     /// An access of the processor or of a hub master.
     fn access_by_any(&mut self, address: u32) {
-        if !self.random.one_in(4) {
-            return self.access(address);
+        match self.random.one_in(4) {
+            true => self.master_access(address),
+            false => self.access(address),
         }
-        let (address, width) = self.shape(address);
-        let data = self.random.word();
-        let write = self.random.one_in(2);
-        self.emit(if write { Record::master_write(address, width, data) } else { Record::master_read(address, width) });
     }
 
     /// One place in C0000h-FFFFFh, or beside it, read and written under one PAMR and another.

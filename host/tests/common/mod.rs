@@ -411,8 +411,21 @@ pub fn register_width(offset: u32) -> u8 {
 }
 
 /// An answer with a target.
-pub fn reached(target: mitrophel::Target, address: u32, value: u32) -> Answer {
+pub fn reached(target: Target, address: u32, value: u32) -> Answer {
     Answer { target: target.number(), address, value, ..Answer::default() }
+}
+
+pub fn hub(address: u32) -> Answer {
+    reached(Target::Hub, address, 0)
+}
+
+/// CF8h by its port, or a register of a device by its number.
+pub fn register(address: u32, value: u32) -> Answer {
+    reached(Target::Register, address, value)
+}
+
+pub fn mapped(offset: u32, value: u32) -> Answer {
+    reached(Target::MemoryMapped, offset, value)
 }
 
 /// A refusal with the interrupt line down.
