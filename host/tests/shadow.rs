@@ -634,7 +634,7 @@ fn neither_register_changes_which_accesses_land_in_protected_memory() {
             seen
         };
         let plain = landed(0x00, 0x00);
-        assert!(plain.iter().any(|(landing, _)| !landing.is_empty()), "SMRAM {smram:02X}h: nothing lands");
+        assert!(plain.iter().all(|(landing, _)| !landing.is_empty()), "SMRAM {smram:02X}h: nothing lands");
         for (pamr, fdhc) in [(0xFF, 0x80), (0x55, 0x80), (0xAA, 0x80), (0xFF, 0x00), (0x00, 0x80), (0x1B, 0x80)] {
             assert!(landed(pamr, fdhc) == plain, "SMRAM {smram:02X}h, PAMR {pamr:02X}h, FDHC {fdhc:02X}h");
         }
