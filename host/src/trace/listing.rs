@@ -182,6 +182,7 @@ fn config(records: &[Record]) -> Option<Line> {
     };
     let fields = match (access.kind()?, device) {
         (Kind::IoWrite, 0) if name == "dev0.SMRAM" => Some(words::smram(Smram(access.data as u8 & !1))),
+        (Kind::IoWrite, 0) => words::shadow(at, access.width, access.data),
         (Kind::IoWrite, 1) => words::power(at, access.width, access.data),
         _ => None,
     };
@@ -309,7 +310,8 @@ mod tests {
             let (address, width, data) = (self.address(), self.width(), self.data());
             match self.below(16) {
                 0 => {
-                    let (device, at) = self.pick(&[(1, 0x10), (1, 0x14), (0, 0x70), (0, 0x72), (1, 0x04)]);
+                    let rows = [(1, 0x10), (1, 0x14), (0, 0x70), (0, 0x72), (1, 0x04), (0, 0x51), (0, 0x58)];
+                    let (device, at) = self.pick(&rows);
                     records.push(Record::io_write(0xCF8, 4, names::selection(device, at)));
                     let port = if self.one_in(8) { 0xCFC + self.below(5) } else { 0xCFC + at % 4 };
                     records.push(Record::io_write(port, width, data));
@@ -516,6 +518,32 @@ mod tests {
             .expect("a vector takes all");
         let text = String::from_utf8(text).expect("a listing is UTF-8");
         assert!(assemble(&text).expect("a listing is a trace").records == bytes);
+    }
+
+    /// Comments say what is written to PAMR and FDHC, as far as the access has them: request 8 of document 02.
+    #[test]
+    fn shadow_memory_is_explained_as_it_is_written() {
+        for (text, words) in [
+            ("config write dev0.PAMR 85h", "C0000h-DFFFFh reads memory; F0000h-FFFFFh writes memory; else hub"),
+            ("config write dev0.PAMR 00h", "C0000h-FFFFFh to the hub"),
+            ("config write2 dev0.50h 3000h", "E0000h-EFFFFh reads and writes memory; else hub"),
+            ("config write dev0.FDHC 80h", "hole at F00000h-FFFFFFh"),
+            ("config write dev0.FDHC 7Fh", "no hole"),
+            ("config write dev0.GMCHCFG FFh", ""),
+            ("config read dev0.PAMR", ""),
+            ("config read dev0.FDHC", ""),
+        ] {
+            let records = assemble(&format!("{text}\n")).expect("a trace").records;
+            let mut listed = Vec::new();
+            Lister { macros: true, comments: true, show_protected: false }
+                .write(&records, &mut listed)
+                .expect("a vector takes all");
+            let expected = match words {
+                "" => format!("{text}\n"),
+                _ => format!("{text:<COMMENT_COLUMN$} # as written: {words}\n"),
+            };
+            assert_eq!(String::from_utf8_lossy(&listed), expected);
+        }
     }
 
     #[test]

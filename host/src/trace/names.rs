@@ -140,6 +140,8 @@ pub const MAPPED: &[Register] = &[
 /// use mitrophel::trace::names;
 ///
 /// assert_eq!(names::config_named(0, "smram").map(|smram| smram.at), Some(0x70));
+/// assert_eq!(names::config_named(0, "PAMR").map(|pamr| (pamr.at, pamr.bytes)), Some((0x51, 1)));
+/// assert_eq!(names::config_named(0, "FDHC").map(|hole| (hole.at, hole.bytes)), Some((0x58, 1)));
 /// assert_eq!(names::config_named(1, "SMRAM"), None);
 /// ```
 pub fn config_named(device: usize, name: &str) -> Option<Register> {

@@ -3,6 +3,7 @@
 use super::{names, numbers};
 use crate::record::{Kind, Record};
 use crate::reference::{Fence, Lsmm, Smram};
+use std::ops::Range;
 
 /// SMRAM's fields: `graphics on, 512 KiB taken; TSEG 1 MiB; A0000h-BFFFFh for management mode; locked`.
 ///
@@ -80,6 +81,144 @@ fn power_state(value: u32) -> &'static str {
 /// ```
 pub fn discarded_power_state(data: u32) -> Option<String> {
     matches!(data & 3, 0b01 | 0b10).then(|| format!("{} discarded", power_state(data)))
+}
+
+/// The addresses that PAMR steers: C0000h-FFFFFh, in four segments of 64 KiB (request 8 of document 02).
+///
+/// ```
+/// use mitrophel::trace::words;
+///
+/// assert_eq!((words::SHADOW.start, words::SHADOW.end), (0xC_0000, 0x10_0000));
+/// ```
+pub const SHADOW: Range<u32> = 0xC_0000..0x10_0000;
+
+/// The length of a segment that PAMR steers.
+///
+/// ```
+/// use mitrophel::trace::words;
+///
+/// assert_eq!(4 * words::SEGMENT_BYTES, words::SHADOW.end - words::SHADOW.start);
+/// ```
+pub const SEGMENT_BYTES: u32 = 64 << 10;
+
+/// The addresses of the hole that FDHC's bit 7 makes: F00000h-FFFFFFh (request 8 of document 02).
+///
+/// ```
+/// use mitrophel::trace::words;
+///
+/// assert_eq!(words::HOLE.end, 16 << 20);
+/// ```
+pub const HOLE: Range<u32> = 0xF0_0000..0x100_0000;
+
+/// The first address of the segment that has an address in [`SHADOW`], and the bit of PAMR that decides there: the low
+/// one of a pair for reads, the high one for writes.
+///
+/// ```
+/// use mitrophel::trace::words;
+///
+/// assert_eq!(words::segment(0xC_ABCD, false), (0xC_0000, 0));
+/// assert_eq!(words::segment(0xF_FFFF, true), (0xF_0000, 7));
+/// ```
+pub fn segment(address: u32, write: bool) -> (u32, u32) {
+    let number = address.wrapping_sub(SHADOW.start) / SEGMENT_BYTES;
+    (address - address % SEGMENT_BYTES, 2 * number + u32::from(write))
+}
+
+/// PAMR's fields: what reaches memory in C0000h-FFFFFh.
+///
+/// ```
+/// use mitrophel::trace::words;
+///
+/// assert_eq!(words::pamr(0x00), "C0000h-FFFFFh to the hub");
+/// assert_eq!(words::pamr(0xFF), "C0000h-FFFFFh reads and writes memory");
+/// assert_eq!(words::pamr(0x85), "C0000h-DFFFFh reads memory; F0000h-FFFFFh writes memory; else hub");
+/// ```
+pub fn pamr(pamr: u8) -> String {
+    let mut runs: Vec<(Range<u32>, u8)> = Vec::new();
+    for (number, first) in SHADOW.step_by(SEGMENT_BYTES as usize).enumerate() {
+        let (pair, end) = (pamr >> (2 * number) & 3, first + SEGMENT_BYTES);
+        match runs.last_mut() {
+            Some((run, own)) if *own == pair => run.end = end,
+            _ => runs.push((first..end, pair)),
+        }
+    }
+    let told = |(run, pair): &(Range<u32>, u8)| {
+        let verb = match pair {
+            0b01 => "reads",
+            0b10 => "writes",
+            0b11 => "reads and writes",
+            _ => return None,
+        };
+        Some(format!("{} {verb} memory", range(run)))
+    };
+    let mut parts: Vec<String> = runs.iter().filter_map(told).collect();
+    match parts.is_empty() {
+        true => format!("{} to the hub", range(&SHADOW)),
+        false => {
+            parts.extend((pamr != 0xFF).then(|| "else hub".to_string()));
+            parts.join("; ")
+        }
+    }
+}
+
+/// The first and the last address of a range.
+fn range(range: &Range<u32>) -> String {
+    format!("{:X}h-{:X}h", range.start, range.end - 1)
+}
+
+/// FDHC's bit 7, where the length of memory is not known.
+///
+/// ```
+/// use mitrophel::trace::words;
+///
+/// assert_eq!([true, false].map(words::hole), ["hole at F00000h-FFFFFFh", "no hole"]);
+/// ```
+pub const fn hole(on: bool) -> &'static str {
+    match on {
+        true => "hole at F00000h-FFFFFFh",
+        false => "no hole",
+    }
+}
+
+/// The same where ordinary memory ends at U: "The hole acts only on addresses below U" (request 8 of document 02).
+///
+/// ```
+/// use mitrophel::trace::words;
+///
+/// assert_eq!(words::hole_below(true, 0x200_0000), "hole at F00000h-FFFFFFh");
+/// assert_eq!(words::hole_below(true, 0xF8_0000), "hole at F00000h-FFFFFFh, acts below U alone, F80000h");
+/// assert_eq!(words::hole_below(true, 0x80_0000), "hole at F00000h-FFFFFFh, acts nowhere: U is 800000h");
+/// assert_eq!(words::hole_below(false, 0x80_0000), "no hole");
+/// ```
+pub fn hole_below(on: bool, usable_top: u32) -> String {
+    let hole = hole(on);
+    if !on || usable_top >= HOLE.end {
+        hole.to_string()
+    } else if usable_top > HOLE.start {
+        format!("{hole}, acts below U alone, {usable_top:X}h")
+    } else {
+        format!("{hole}, acts nowhere: U is {usable_top:X}h")
+    }
+}
+
+/// What PAMR and FDHC (device 0 registers 51 and 58, one byte each) hold, as far as an access at this register has them.
+/// `value` is what was read or written there.
+///
+/// ```
+/// use mitrophel::trace::words;
+///
+/// assert_eq!(words::shadow(0x51, 1, 0x03).as_deref(), Some("C0000h-CFFFFh reads and writes memory; else hub"));
+/// assert_eq!(words::shadow(0x50, 2, 0xFF00).as_deref(), Some("C0000h-FFFFFh reads and writes memory"));
+/// assert_eq!(words::shadow(0x58, 1, 0x80).as_deref(), Some("hole at F00000h-FFFFFFh"));
+/// assert_eq!(words::shadow(0x50, 1, 0xFF), None);
+/// ```
+pub fn shadow(at: u32, width: u8, value: u32) -> Option<String> {
+    match (at, width) {
+        (0x50, 2 | 4) => Some(pamr((value >> 8) as u8)),
+        (0x51, 1 | 2) => Some(pamr(value as u8)),
+        (0x58, 1 | 2 | 4) => Some(hole(value & 0x80 != 0).to_string()),
+        _ => None,
+    }
 }
 
 /// A fence register's fields, good or ill-formed.
@@ -302,6 +441,58 @@ mod tests {
         // Other registers, and accesses that are refused.
         for (at, width) in [(0xDE, 2), (0xDF, 1), (0xE0, 0), (0xE0, 3), (0xE1, 4), (0xE2, 1), (0xE2, 2), (0xE3, 1)] {
             assert_eq!(power(at, width, u32::MAX), None, "{width} bytes at {at:X}h");
+        }
+    }
+
+    /// Each value of PAMR names each segment with a bit set once, and says what happens to all others.
+    #[test]
+    fn pamr_is_said_in_words() {
+        assert_eq!(
+            pamr(0xB1),
+            "C0000h-CFFFFh reads memory; E0000h-EFFFFh reads and writes memory; F0000h-FFFFFh writes memory; else hub"
+        );
+        assert_eq!(pamr(0x14), "D0000h-EFFFFh reads memory; else hub");
+        for value in 0..=0xFF_u8 {
+            let words = pamr(value);
+            for address in SHADOW.step_by(SEGMENT_BYTES as usize) {
+                let [read, write] = [false, true].map(|write| {
+                    let (first, bit) = segment(address + 0xFFFC, write);
+                    assert_eq!(first, address);
+                    value >> bit & 1 != 0
+                });
+                let run = words.split("; ").find_map(|part| {
+                    let (range, verb) = part.split_once(' ')?;
+                    let (first, last) = range.split_once('-')?;
+                    let number = |text: &str| u32::from_str_radix(text.trim_end_matches('h'), 16).ok();
+                    (number(first)?..=number(last)?).contains(&address).then_some(verb)
+                });
+                let expected = match (read, write) {
+                    (false, false) => None,
+                    (true, false) => Some("reads memory"),
+                    (false, true) => Some("writes memory"),
+                    (true, true) => Some("reads and writes memory"),
+                };
+                assert_eq!(run.filter(|verb| *verb != "to the hub"), expected, "{value:02X}h, {address:X}h: {words}");
+            }
+            assert_eq!(words.ends_with("hub"), value != 0xFF, "{words}");
+        }
+    }
+
+    #[test]
+    fn pamr_and_fdhc_are_said_in_words_as_far_as_an_access_has_them() {
+        for value in [0x00, 0x31, 0x80, 0xFF] {
+            let noise = 0x5A5A_0000;
+            for (at, width, shifted) in [(0x51, 1, value), (0x51, 2, noise | value), (0x50, 2, value << 8 | 0x5A)] {
+                assert_eq!(shadow(at, width, shifted), Some(pamr(value as u8)));
+            }
+            assert_eq!(shadow(0x50, 4, noise | value << 8), Some(pamr(value as u8)));
+            for width in [1, 2, 4] {
+                assert_eq!(shadow(0x58, width, noise | value).as_deref(), Some(hole(value & 0x80 != 0)));
+            }
+        }
+        // Other registers, and accesses that are refused.
+        for (at, width) in [(0x50, 1), (0x50, 3), (0x51, 4), (0x52, 2), (0x53, 1), (0x57, 1), (0x59, 1), (0x5A, 2)] {
+            assert_eq!(shadow(at, width, u32::MAX), None, "{width} bytes at {at:X}h");
         }
     }
 
