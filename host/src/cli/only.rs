@@ -29,6 +29,8 @@ pub const NAMES: &[(&str, Is)] = &[
     ("mmio", |step| step.answer.target() == Some(Target::MemoryMapped)),
     ("display", |step| step.answer.target() == Some(Target::DisplayCache)),
     ("window", |step| step.rule == Some(Rule::Window)),
+    ("shadow", |step| matches!(step.rule, Some(Rule::ShadowMemory | Rule::MasterShadow))),
+    ("hole", |step| matches!(step.rule, Some(Rule::Hole | Rule::MasterHole))),
     ("error", |step| matches!(step.rule, Some(Rule::TsegError | Rule::HsegError))),
     ("interrupt", |step| step.answer.line != 0),
     ("io", |step| matches!(kind(step), Some(Kind::IoRead | Kind::IoWrite))),

@@ -95,11 +95,15 @@ impl Page {
     }
 }
 
-/// Where memory ends and what of it is protected.
+/// Where memory ends, what of it the hole hides and what is protected.
 fn memory(page: &mut Page, hub: &Hub<'_>) {
     page.heading("Memory");
     page.row(&format!("TOM        {:8X}h", hub.tom()), "memory ends");
     page.row(&format!("U          {:8X}h", hub.usable_top()), "ordinary memory ends");
+    let hole = words::HOLE.start..words::HOLE.end.min(hub.usable_top());
+    if hub.hole() && !hole.is_empty() {
+        page.row(&format!("hole       {:8X}h", hole.start), &format!("to {:X}h goes to the hub", hole.end - 1));
+    }
     for range in hub.protected_ranges() {
         page.row(&format!("protected  {:8X}h", range.start), &format!("to {:X}h", range.end - 1));
     }

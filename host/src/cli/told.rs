@@ -7,6 +7,7 @@ use super::{listing, names, numbers, words};
 use mitrophel::reference::{Fence, Gmch, Lsmm, Observer, Rule, TableWord, TABLE_WORDS};
 use mitrophel::trace::REDACTED;
 use mitrophel::{Kind, Record, Refusal, Target};
+use std::ops::Range;
 
 /// How an answer is coloured.
 #[derive(Clone, Copy, Debug, PartialEq, Eq)]
@@ -367,7 +368,8 @@ fn reason(step: &Step<'_, '_>, hidden_page: bool) -> String {
         Rule::Low => "rule 1: below A0000h".to_string(),
         Rule::CompatibleMemory | Rule::CompatibleVga => format!("rule 2: {}", compatible(step)),
         Rule::CompatibleHub => format!("rule 2: {}, graphics off", compatible(step)),
-        Rule::ShadowMemory | Rule::ShadowHub => "rule 3: C0000h-FFFFFh".to_string(),
+        Rule::ShadowMemory | Rule::ShadowHub => format!("rule 3: {}", shadow(step)),
+        Rule::Hole => format!("rule 4: {HOLE}"),
         Rule::Main => format!("rule 4: below U, {:X}h", hub.usable_top()),
         Rule::TsegMemory => "rule 5: TSEG, management mode".to_string(),
         Rule::TsegError => "rule 5: TSEG, not management mode".to_string(),
@@ -383,8 +385,22 @@ fn reason(step: &Step<'_, '_>, hidden_page: bool) -> String {
         Rule::MasterLow => "hub master by rule 1: below A0000h".to_string(),
         Rule::MasterCompatible => "hub master by rule 2: LSMM 01, general memory".to_string(),
         Rule::MasterMain => format!("hub master by rule 4: below U, {:X}h", hub.usable_top()),
+        Rule::MasterShadow => format!("hub master by rule 3: {}", shadow(step)),
+        Rule::MasterHole => format!("hub master by rule 4: {HOLE}"),
         Rule::MasterHub => master_reason(step),
-        Rule::Hole | Rule::MasterShadow | Rule::MasterHole => rule.to_string(),
+    }
+}
+
+const HOLE: &str = "the hole at F00000h-FFFFFFh, FDHC bit 7";
+
+/// The bit of PAMR that took an access in C0000h-FFFFFh to memory or to the hub: request 8 of document 02.
+fn shadow(step: &Step<'_, '_>) -> String {
+    let (first, bit) = words::segment(step.record.address, is_write(step));
+    let segment = format!("{first:X}h-{:X}h", first + words::SEGMENT_BYTES - 1);
+    let verb = if is_write(step) { "writes" } else { "reads" };
+    match step.hub.pamr() >> bit & 1 {
+        0 => format!("{segment}, PAMR bit {bit} is 0: {verb} go to the hub"),
+        _ => format!("{segment} {verb} memory by PAMR bit {bit}"),
     }
 }
 
@@ -438,9 +454,50 @@ fn refused_window_reason(step: &Step<'_, '_>, offset: u32, hidden_page: bool) ->
     }
 }
 
+/// Why a hub master's access goes to the hub by no rule, or by PAMR.
 fn master_reason(step: &Step<'_, '_>) -> String {
-    let top = step.hub.usable_top();
-    format!("hub masters reach 0-9FFFFh and 100000h-{:X}h", top.wrapping_sub(1))
+    if words::SHADOW.contains(&step.record.address) {
+        return format!("hub master by rule 3: {}", shadow(step));
+    }
+    let ranges = master_ranges(step.hub, is_write(step));
+    let mut ranges: Vec<String> = ranges.iter().map(|range| format!("{}-{:X}h", start(range), range.end - 1)).collect();
+    let last = ranges.pop().unwrap_or_default();
+    match ranges.is_empty() {
+        true => format!("hub masters reach {last}"),
+        false => format!("hub masters reach {} and {last}", ranges.join(", ")),
+    }
+}
+
+fn start(range: &Range<u32>) -> String {
+    match range.start {
+        0 => "0".to_string(),
+        start => format!("{start:X}h"),
+    }
+}
+
+/// The memory that hub masters read or write: "memory by rules 1, 4 and by 2 with LSMM 01", and by request 8 of document
+/// 02 the segments that PAMR opens, without the hole.
+fn master_ranges<O: Observer>(hub: &Gmch<'_, O>, write: bool) -> Vec<Range<u32>> {
+    let (hole, top) = (words::HOLE, hub.usable_top());
+    let segments = words::SHADOW.step_by(words::SEGMENT_BYTES as usize).map(|first| {
+        let (_, bit) = words::segment(first, write);
+        (first..first + words::SEGMENT_BYTES, hub.pamr() >> bit & 1 != 0)
+    });
+    let low = [(0..0xA_0000, true), (0xA_0000..0xC_0000, hub.smram().lsmm() == Lsmm::General)];
+    let main = [
+        (words::SHADOW.end..hole.start.min(top), true),
+        (hole.start..hole.end.min(top), !hub.hole()),
+        (hole.end..top, true),
+    ];
+    let mut ranges: Vec<Range<u32>> = Vec::new();
+    for (range, reached) in low.into_iter().chain(segments).chain(main) {
+        match ranges.last_mut() {
+            _ if range.is_empty() || !reached => {}
+            Some(before) if before.end == range.start => before.end = range.end,
+            _ => ranges.push(range),
+        }
+    }
+    ranges
 }
 
 /// What a configuration register's value means, for those that decide where addresses go and for the power state.
@@ -451,6 +508,8 @@ fn config_reason(step: &Step<'_, '_>) -> String {
     match (device, at) {
         (0, 0x70) => words::smram(hub.smram()),
         (0, 0x72) => format!("window of {}", numbers::bytes(hub.window_bytes().into())),
+        (0, 0x58) => words::hole_below(hub.hole(), hub.usable_top()),
+        (0, _) => shadow_reason(step, at).unwrap_or_else(other),
         (1, 0x04) if hub.graphics_decodes() => "registers and window on".to_string(),
         (1, 0x04) => "registers and window off".to_string(),
         (1, 0x10..=0x13) => format!("window at {:X}h", hub.window_base()),
@@ -458,6 +517,11 @@ fn config_reason(step: &Step<'_, '_>) -> String {
         (1, _) => power_reason(step, at).unwrap_or_else(other),
         _ => other(),
     }
+}
+
+/// PAMR as an access reads or leaves it: request 8 of document 02.
+fn shadow_reason(step: &Step<'_, '_>, at: u32) -> Option<String> {
+    words::shadow(at, step.record.width, step.now.unwrap_or(step.answer.value))
 }
 
 /// PM_CS as an access reads or leaves it, and the power state that a write brought in vain: request 3 of document 02.

@@ -45,6 +45,8 @@ fn config_words(hub: &Hub<'_>, board: Board, device: usize, row: &Register) -> S
         (_, "VID") => "Intel".to_string(),
         (_, "DID") => chip(board).to_string(),
         (0, "SMRAM") => words::smram(hub.smram()),
+        (0, "PAMR") => words::pamr(hub.pamr()),
+        (0, "FDHC") => words::hole_below(hub.hole(), hub.usable_top()),
         (0, "MISCC") => format!("window of {}", numbers::bytes(hub.window_bytes().into())),
         (1, "PCICMD") if hub.graphics_decodes() => "memory enabled: window and registers are on".to_string(),
         (1, "PCICMD") if memory_on => "memory enabled, but graphics is off".to_string(),
