@@ -60,6 +60,9 @@ fn bash_completes_commands_options_and_values() {
         (&["map", "--memory", "1"], &["16M", "128M", "1G"]),
         (&["audit", "night.rec", "--deny", "pro"], &["protected"]),
         (&["map", "--smram", ""], &[]),
+        (&["map", "--pam", ""], &[]),
+        (&["map", "--h"], &["--hole", "--help"]),
+        (&["replay", "--only", "=", "sh"], &["shadow"]),
         (&["audit", "--jobs", ""], &[]),
         (&["explain", "prot"], &["protected"]),
         (&["completion", "z"], &["zsh"]),
@@ -76,7 +79,7 @@ fn bash_completes_commands_options_and_values() {
     all.extend(["help", "--help", "--version"].map(str::to_string));
     assert_eq!(completed(&script, &[""]), all);
     for command in commands() {
-        assert!(completed(&script, &[&command, "--h"]) == ["--help"], "{command}");
+        assert!(completed(&script, &[&command, "--he"]) == ["--help"], "{command}");
     }
 }
 

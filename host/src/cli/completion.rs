@@ -43,7 +43,7 @@ fn value(option: &str) -> Offer {
         "--only" => only::NAMES.iter().map(|(name, _)| *name).chain(refusals()).collect(),
         "--memory" => vec!["8M", "16M", "32M", "64M", "128M", "256M", "512M", "1G"],
         "--window-size" => vec!["32M", "64M"],
-        "--smram" | "--window" | "--registers" | "--jobs" => Vec::new(),
+        "--smram" | "--pam" | "--window" | "--registers" | "--jobs" => Vec::new(),
         _ => return Offer::Files,
     })
 }

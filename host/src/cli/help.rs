@@ -55,8 +55,10 @@ refusal and why. An access that is refused in the window is told with the table
 entry and the window offset, which the answer's address field holds; a write of
 an entry of a protected page, refused once SMRAM is locked, with entry and page
 as the record has them. A write that brings power state 01 or 10 to dev1.PM_CS
-leaves the state as it was, and is told with 'discarded'. FILE is a text trace
-or the binary form, told apart by its content; '-' is standard input.
+leaves the state as it was, and is told with 'discarded'. An access in
+C0000h-FFFFFh is told with the bit of dev0.PAMR that takes it to memory or to
+the hub, and one in the hole with dev0.FDHC. FILE is a text trace or the binary
+form, told apart by its content; '-' is standard input.
 
   --check           compare the answers with what the trace expects, '#> ..'
                     beside or below a line; exit with 1 if one differs
@@ -91,8 +93,8 @@ or the binary form, told apart by its content; '-' is standard input.
 
 Kinds for --only: refused, answered; a refusal's code or name as 'mitrophel
 explain' lists them; memory, register, hub, vga, mmio, display, by where it
-went; window, error, interrupt; io, read, fetch, write, smm, master, run,
-reset.
+went; window, shadow (memory in C0000h-FFFFFh), hole, error, interrupt; io,
+read, fetch, write, smm, master, run, reset.
 
 The reasons come from a second replay, in ordinary Rust, beside the proved
 call. Should the two ever disagree, the difference is told, nothing is written,
@@ -138,8 +140,9 @@ PLACE     a number, WINDOW+n, MMIO+n, GTT[i], FENCE0 to FENCE7, PGTBL_CTL,
           IMR, ISR, DRT, DRAMCL or DRAMCH; a register's name needs no width.
           The names stand at MMADR and GMADR as the records before have left
           them.
-REGISTER  dev0.SMRAM, dev1.GMADR and so on, by the datasheet's symbols, which
-          need no width, or its number in hexadecimal: dev0.70
+REGISTER  dev0.SMRAM, dev0.PAMR, dev0.FDHC, dev1.GMADR and so on, by the
+          datasheet's symbols, which need no width, or its number in
+          hexadecimal: dev0.70
 DATA      a number, or an instruction of the ring parser: noop, user_interrupt
           or flush
 BYTE      two hexadecimal digits, or a number to 255
@@ -177,10 +180,11 @@ Example:
 
 const STATE: &str = "\
 Usage: mitrophel state [OPTION].. FILE
-Replay the records of FILE from a cold start and show what they leave: the
-registers by name with their fields in words, the valid entries of the
-translation table and, once SMRAM is locked, how many of them name protected
-pages, the ring's words from head to tail, configuration space.
+Replay the records of FILE from a cold start and show what they leave: where
+memory ends, where its hole is and what is protected, the registers by name
+with their fields in words, the valid entries of the translation table and,
+once SMRAM is locked, how many of them name protected pages, the ring's words
+from head to tail, configuration space.
 Words of memory that is protected at some time are '\u{B7}\u{B7}', those of a table
 in main memory too. FILE is a text trace or the binary form, told apart by its
 content; '-' is standard input.
@@ -207,8 +211,10 @@ Usage: mitrophel map [OPTION].. [FILE]
 Show the address map in force: where each address goes for the processor, in
 management mode, for hub masters, and for graphics through the translation
 table; which ranges are protected; and on boards with a display cache whether
-it is on and which entries reach it. It is the map of SMRAM as given, or as the
-trace or records of FILE leave it ('-': standard input).
+it is on and which entries reach it. It is the map of SMRAM, PAMR and FDHC as
+given, or as the trace or records of FILE leave them ('-': standard input).
+Where PAMR has reads and writes go different ways, a cell holds both:
+'memory/hub' reads from memory and writes to the hub.
 
   --board NAME         82810 (default), dc100, 82810-main, dc100-main
   --memory SIZE        main memory: a multiple of 8M, 8M to 1G
@@ -221,15 +227,20 @@ With FILE:
   --text, --binary     take it for a text trace, or for the binary form
 Without FILE:
   --smram NUMBER       SMRAM as written (default 0)
+  --pam BYTE           PAMR as written (default 0): from bit 0 up two bits for
+                       each of C0000h, D0000h, E0000h and F0000h; the low one
+                       has reads go to memory, the high one writes
+  --hole               the hole at F00000h-FFFFFFh, below U: FDHC bit 7
   --window ADDRESS     GMADR, and device 1's memory enable
   --registers ADDRESS  MMADR, and device 1's memory enable
   --window-size SIZE   32M or 64M (default)
 
-It is found by asking the proved call: a read by each of the first three, and
-a read through the window where an entry names a page of a board with the same
-SMRAM, but graphics on and no lock; protected is what that read is refused 6
-for. The rule numbers, and with them what sets the error bit, come from the
-reference, whose answers are the same.
+It is found by asking the proved call: a read by each of the first three, in
+C0000h-FFFFFh a write too, after all reads, and a read through the window where
+an entry names a page of a board with the same SMRAM, PAMR and FDHC, but
+graphics on and no lock; protected is what that read is refused 6 for. The rule
+numbers, and with them what sets the error bit, come from the reference, whose
+answers are the same.
 
 Example:
   mitrophel map --smram BEh --window C0000000h --svg map.svg

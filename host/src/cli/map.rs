@@ -21,24 +21,19 @@ pub const GRAMMAR: Grammar = Grammar {
         "--image",
         "--display",
         "--smram",
+        "--pam",
         "--window",
         "--registers",
         "--window-size",
         "--svg",
         "--color",
     ],
-    switches: &["--text", "--binary"],
+    switches: &["--text", "--binary", "--hole"],
     files: 1,
 };
 
 /// The columns' widths in the table.
 const WIDTHS: [usize; 4] = [14, 15, 10, 9];
-
-/// What the reader of a map needs to know.
-pub const NOTES: [&str; 2] = [
-    "(n): document 01's rule. error: SMRAM's error bit is set.",
-    "Graphics reaches a page through a table entry that names it; '-': none can.",
-];
 
 /// `mitrophel map`
 pub fn run(words: &[OsString]) -> Result<Status, Failure> {
@@ -72,7 +67,7 @@ pub fn run(words: &[OsString]) -> Result<Status, Failure> {
 
 /// The list of a file.
 fn traced(options: &Options, source: &Source) -> Result<List, Failure> {
-    let only_without = ["--smram", "--window", "--registers", "--window-size"];
+    let only_without = ["--smram", "--pam", "--hole", "--window", "--registers", "--window-size"];
     if let Some(option) = only_without.iter().find(|option| options.has(option)) {
         return Err(options.usage(format!("{option} and FILE exclude each other: FILE's records decide")));
     }
@@ -81,10 +76,7 @@ fn traced(options: &Options, source: &Source) -> Result<List, Failure> {
 
 /// The list that sets up what the options describe.
 fn described(options: &Options) -> Result<List, Failure> {
-    let smram = options.number("--smram")?.unwrap_or(0);
-    if smram > 0xFF {
-        return Err(options.usage(format!("--smram: expected a byte, found {smram:X}h")));
-    }
+    let (smram, pam) = (byte(options, "--smram")?, byte(options, "--pam")?);
     let small = options.converted("--window-size", |text| match numbers::size(text) {
         Some(size) if size == 32 << 20 => Ok(true),
         Some(size) if size == 64 << 20 => Ok(false),
@@ -98,6 +90,8 @@ fn described(options: &Options) -> Result<List, Failure> {
     }
     let mut records = config_write(0, 0x72, 1, u32::from(small)).to_vec();
     records.extend(config_write(0, 0x70, 1, smram));
+    records.extend(config_write(0, 0x51, 1, pam));
+    records.extend(config_write(0, 0x58, 1, if options.has("--hole") { 0x80 } else { 0 }));
     if let Some(base) = window {
         records.extend(config_write(1, 0x10, 4, base));
     }
@@ -108,6 +102,14 @@ fn described(options: &Options) -> Result<List, Failure> {
         records.extend(config_write(1, 0x04, 1, 0x06));
     }
     List::binary(String::new(), record::encode(&records))
+}
+
+/// An option's value for a register of one byte; 0 where it is not given.
+fn byte(options: &Options, name: &str) -> Result<u32, Failure> {
+    match options.number(name)?.unwrap_or(0) {
+        value if value > 0xFF => Err(options.usage(format!("{name}: expected a byte, found {value:X}h"))),
+        value => Ok(value),
+    }
 }
 
 /// An option's address, which must be a multiple of the size of what stands there.
@@ -137,7 +139,7 @@ impl Map {
             writeln!(out, "{}", line.trim_end())?;
         }
         write!(out, "\n*: protected. ")?;
-        NOTES.iter().try_for_each(|note| writeln!(out, "{note}"))?;
+        self.notes().iter().try_for_each(|note| writeln!(out, "{note}"))?;
         self.print_table(out, style)
     }
 
@@ -186,6 +188,6 @@ fn paint(style: Style, cell: &Cell, width: usize) -> String {
         Class::Refused => style.bad(&text),
         Class::Error => style.warning(&text),
         Class::Hub | Class::Vga | Class::Nothing => style.dim(&text),
-        Class::Memory | Class::Registers | Class::Window => text,
+        Class::Memory | Class::Registers | Class::Window | Class::Split => text,
     }
 }

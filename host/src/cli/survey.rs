@@ -1,9 +1,10 @@
 //! Where each address goes, found by asking.
 //!
 //! At each address where something may change, the proved call and the reference are given a read by the
-//! processor, by management mode (data and code) and by a hub master. What graphics reaches is asked in a
-//! call of its own: a table entry names each page, and the processor reads through the window. The
-//! reference, which must give the same answers, names the rules.
+//! processor, by management mode (data and code) and by a hub master; and where PAMR may send writes
+//! elsewhere than reads, in C0000h-FFFFFh, a write by each of the three, after all reads. What graphics
+//! reaches is asked in a call of its own: a table entry names each page, and the processor reads through the
+//! window. The reference, which must give the same answers, names the rules.
 
 use super::failure::Failure;
 use super::follow::{Follower, Ground};
@@ -30,6 +31,8 @@ pub enum Class {
     Window,
     Vga,
     Hub,
+    /// Reads go to one of memory and hub, and writes to the other.
+    Split,
     Error,
     Refused,
     Nothing,
@@ -203,11 +206,26 @@ pub struct Map {
     pub table: Table,
 }
 
+impl Map {
+    /// What the reader of the map needs to know.
+    pub fn notes(&self) -> Vec<&'static str> {
+        let split = self.rows.iter().any(|row| row.cells.iter().any(|cell| cell.class == Class::Split));
+        NOTES.into_iter().chain(split.then_some("a/b: reads go to a, writes to b.")).collect()
+    }
+}
+
+const NOTES: [&str; 2] = [
+    "(n): document 01's rule. error: SMRAM's error bit is set.",
+    "Graphics reaches a page through a table entry that names it; '-': none can.",
+];
+
 /// Where the map may change, from 0 up.
 fn edges(hub: &Gmch<'_>, tom: u32) -> Vec<u32> {
     let (tseg, taken) = (hub.smram().tseg_bytes(), hub.smram().taken_bytes());
-    let mut edges: Vec<u64> = [0, 0xA_0000, 0xC_0000, 0x10_0000, PAST_PAGES.into(), 0xFEEA_0000, 0xFEEC_0000].to_vec();
-    edges.extend([tom - tseg - taken, tom - tseg, tom].map(u64::from));
+    let mut edges: Vec<u64> = [0, 0xA_0000, PAST_PAGES.into(), 0xFEEA_0000, 0xFEEC_0000].to_vec();
+    edges.extend(segments().map(u64::from));
+    let hole = words::HOLE;
+    edges.extend([words::SHADOW.end, hole.start, hole.end, tom - tseg - taken, tom - tseg, tom].map(u64::from));
     if hub.graphics_decodes() {
         let (registers, window) = (u64::from(hub.registers_base()), u64::from(hub.window_base()));
         edges.extend([registers, registers + u64::from(names::REGISTERS_BYTES)]);
@@ -216,6 +234,11 @@ fn edges(hub: &Gmch<'_>, tom: u32) -> Vec<u32> {
     edges.sort_unstable();
     edges.dedup();
     edges.into_iter().filter_map(|edge| u32::try_from(edge).ok()).collect()
+}
+
+/// The first addresses of the segments that PAMR steers.
+fn segments() -> impl Iterator<Item = u32> {
+    words::SHADOW.step_by(words::SEGMENT_BYTES as usize)
 }
 
 /// One read for each column but the last; management mode reads data and code.
@@ -228,15 +251,28 @@ fn probes(edge: u32) -> [Record; 4] {
     ]
 }
 
-/// What is asked in the last call of a list: SMRAM, and the columns but the last.
-fn questions(edges: &[u32]) -> Vec<Record> {
-    let select = Record::io_write(names::CONFIG_ADDRESS, 4, names::selection(0, 0x70));
-    let smram = [select, Record::io_read(names::CONFIG_DATA, 1)];
-    smram.into_iter().chain(edges.iter().flat_map(|edge| probes(*edge))).collect()
+/// One write for each column but the last. It reaches memory or the hub and nothing else in C0000h-FFFFFh, where nothing is
+/// protected.
+fn write_probes(segment: u32) -> [Record; 3] {
+    [Record::write(segment, 4, 0, false), Record::write(segment, 4, 0, true), Record::master_write(segment, 4, 0)]
 }
 
-/// How many of the questions are about SMRAM.
-const SMRAM_QUESTIONS: usize = 2;
+/// The registers of device 0 that the map is asked with: SMRAM, PAMR and FDHC.
+const ASKED: [u32; 3] = [0x70, 0x51, 0x58];
+
+/// What is asked in the last call of a list: the registers, and the columns but the last. Writes come last, when
+/// everything else that is shown has been looked at: a table in main memory may be where they go.
+fn questions(edges: &[u32]) -> Vec<Record> {
+    let registers = ASKED.into_iter().flat_map(|at| {
+        let select = Record::io_write(names::CONFIG_ADDRESS, 4, names::selection(0, at));
+        [select, Record::io_read(names::CONFIG_DATA + at % 4, 1)]
+    });
+    let reads = edges.iter().flat_map(|edge| probes(*edge));
+    registers.chain(reads).chain(segments().flat_map(write_probes)).collect()
+}
+
+/// How many of the questions are about registers.
+const REGISTER_QUESTIONS: usize = 2 * ASKED.len();
 
 /// A write of a configuration register.
 pub fn config_write(device: usize, at: u32, width: u8, data: u32) -> [Record; 2] {
@@ -255,16 +291,22 @@ fn display_pages() -> [u32; 3] {
 /// What graphics meets with each of these table words.
 ///
 /// Pages are protected or not by SMRAM and the memory's length alone, and locked or not; and the display cache is on or
-/// off by DRT alone. So it is asked on a board that is like the one in force in these, with the window and the registers
-/// above all memory; with graphics on, which protects nothing and without which there is no window; and without the lock,
-/// with which the entries would not be stored.
-fn graphics_codes(pair: &mut Pair, smram: u8, drt: Option<u32>, words: &[u32]) -> Result<Vec<u8>, Failure> {
+/// off by DRT alone. So it is asked on a board that is like the one in force in these and in PAMR and FDHC, which make no
+/// difference to an entry, with the window and the registers above all memory; with graphics on, which protects nothing
+/// and without which there is no window; and without the lock, with which the entries would not be stored.
+fn graphics_codes(
+    pair: &mut Pair,
+    [smram, pamr, fdhc]: [u8; 3],
+    drt: Option<u32>,
+    words: &[u32],
+) -> Result<Vec<u8>, Failure> {
     const WINDOW: u32 = 0xC000_0000;
     const REGISTERS: u32 = 0xF000_0000;
     let on = if Smram(smram).graphics_on() { smram } else { smram | 0x40 } & !0x02;
-    let writes = [(0, 0x70, 1, on.into()), (1, 0x10, 4, WINDOW), (1, 0x14, 4, REGISTERS), (1, 0x04, 1, 0x06)];
+    let asked = ASKED.into_iter().zip([on, pamr, fdhc]).map(|(at, value)| (0, at, 1, value.into()));
+    let writes = asked.chain([(1, 0x10, 4, WINDOW), (1, 0x14, 4, REGISTERS), (1, 0x04, 1, 0x06)]);
     let mut records: Vec<Record> =
-        writes.into_iter().flat_map(|(device, at, width, data)| config_write(device, at, width, data)).collect();
+        writes.flat_map(|(device, at, width, data)| config_write(device, at, width, data)).collect();
     records.push(Record::write(REGISTERS + names::PGTBL_CTL, 4, 1, false));
     records.extend(drt.map(|drt| Record::write(REGISTERS + names::DRT, 1, drt, false)));
     let first = records.len();
@@ -295,16 +337,17 @@ impl Map {
             )));
         }
         let first = setup.len() / RECORD_BYTES;
-        let mut asked = Asked { probes: first + SMRAM_QUESTIONS, edges, guarded, ..Asked::default() };
+        let mut asked = Asked { probes: first + REGISTER_QUESTIONS, edges, guarded, ..Asked::default() };
         let answers = pair.replay(&records, |step| {
             asked.note(step, board);
             Ok(())
         })?;
-        let smram = record::decode_answers(&answers).nth(first + 1).unwrap_or_default().value as u8;
+        let read: Vec<u8> = record::decode_answers(&answers).skip(first).map(|answer| answer.value as u8).collect();
+        let registers = [1, 3, 5].map(|at| read.get(at).copied().unwrap_or_default());
         let pages = asked.edges.iter().filter(|edge| **edge < PAST_PAGES).map(|page| page | 0b001);
         let display = display_pages().map(|page| page | 0b011);
         let words: Vec<u32> = pages.chain(display).collect();
-        asked.graphics = graphics_codes(&mut pair, smram, asked.drt, &words)?;
+        asked.graphics = graphics_codes(&mut pair, registers, asked.drt, &words)?;
         asked.display = asked.graphics.split_off(words.len() - display.len());
         Ok(asked.finish())
     }
@@ -353,11 +396,17 @@ impl Asked {
         self.usable_top = hub.usable_top();
         self.title = format!("Address map: board {board}, {memory}, SMRAM {:02X}h", hub.smram().0);
         self.lines.push(format!("SMRAM: {}.", words::smram(hub.smram())));
+        if hub.pamr() != 0 {
+            self.lines.push(format!("PAMR {:02X}h: {}.", hub.pamr(), words::pamr(hub.pamr())));
+        }
         self.lines.push(format!(
             "Memory ends at TOM, {:X}h, ordinary memory at U, {:X}h.",
             hub.tom(),
             hub.usable_top()
         ));
+        if hub.hole() {
+            self.lines.push(format!("FDHC 80h: {}.", words::hole_below(true, hub.usable_top())));
+        }
         if hub.graphics_decodes() {
             let size = numbers::bytes(hub.window_bytes().into());
             // Memory comes first.
@@ -403,15 +452,31 @@ impl Asked {
         let rules: Vec<Rule> = self.rules.get(4 * at..4 * at + 4)?.iter().flatten().copied().collect();
         let [processor, data, code_read, master] = rules[..] else { return None };
         let code = self.graphics.get(at).copied();
-        let cells = [cell(processor), management(data, code_read), cell(master), graphics(code)];
+        let mut reads = [cell(processor), management(data, code_read), cell(master)];
+        if words::SHADOW.contains(&first) {
+            let writes = self.writes(first)?;
+            reads = [0, 1, 2].map(|column| split(&reads[column], &writes[column]));
+        }
+        let [processor_cell, management, master] = reads;
+        let cells = [processor_cell, management, master, graphics(code)];
         let protected = code == Some(Refusal::PageProtected.code());
         Some(Row { first, last, cells, protected, name: self.name(first, processor) })
+    }
+
+    /// Where writes go in the segment of C0000h-FFFFFh that starts here.
+    fn writes(&self, first: u32) -> Option<[Cell; 3]> {
+        let number = segments().position(|segment| segment == first)?;
+        let from = 4 * self.edges.len() + 3 * number;
+        let rules: Vec<Rule> = self.rules.get(from..from + 3)?.iter().flatten().copied().collect();
+        let [processor, management, master] = rules[..] else { return None };
+        Some([processor, management, master].map(cell))
     }
 
     fn name(&self, first: u32, processor: Rule) -> &'static str {
         match processor {
             Rule::CompatibleMemory | Rule::CompatibleVga | Rule::CompatibleHub => "VGA",
             Rule::ShadowMemory | Rule::ShadowHub => "BIOS",
+            Rule::Hole => "hole",
             Rule::TsegMemory | Rule::TsegError => "TSEG",
             Rule::Taken => "taken",
             Rule::HsegMemory | Rule::HsegError => "HSEG",
@@ -468,6 +533,20 @@ fn management(data: Rule, code: Rule) -> Cell {
     }
     // Rule 2 with LSMM 10: code reads reach memory, all else goes where the processor's goes.
     Cell { class: code.class, text: "code memory (2)".to_string() }
+}
+
+/// Reads and writes in one cell. A hub master's hub has no rule, nor has a cell that says it with another.
+fn split(read: &Cell, write: &Cell) -> Cell {
+    if read == write {
+        return read.clone();
+    }
+    let parts = |cell: &Cell| match cell.text.split_once(' ') {
+        Some((place, rule)) => (place.to_string(), Some(rule.to_string())),
+        None => (cell.text.clone(), None),
+    };
+    let ((read, rule), (write, own)) = (parts(read), parts(write));
+    let rule = rule.filter(|rule| own.as_ref() == Some(rule)).map(|rule| format!(" {rule}"));
+    Cell { class: Class::Split, text: format!("{read}/{write}{}", rule.unwrap_or_default()) }
 }
 
 /// PGTBL_CTL bit 0.
@@ -552,10 +631,17 @@ mod tests {
         writes.into_iter().flat_map(|(device, at, width, data)| config_write(device, at, width, data)).collect()
     }
 
+    /// PAMR and FDHC: request 8 of document 02.
+    fn shadow(pamr: u32, fdhc: u32) -> Vec<Record> {
+        [config_write(0, 0x51, 1, pamr), config_write(0, 0x58, 1, fdhc)].concat()
+    }
+
     /// A board that the proved call is asked about.
     struct Proved {
         board: Board,
         lent: Lent,
+        /// What PAMR and FDHC are written.
+        shadow: Vec<Record>,
     }
 
     impl Proved {
@@ -568,7 +654,7 @@ mod tests {
             record::decode_answers(&answers).skip(list.len() - last).collect()
         }
 
-        /// What the proved call does with a read after these records: a cell's words without the rule.
+        /// What the proved call does with an access after these records: a cell's words without the rule.
         fn goes(&mut self, setup: &[Record], probe: Record) -> &'static str {
             let list = [setup, &[probe], &config_write(0, 0x70, 4, 0)[..1], &[Record::io_read(0xCFC, 1)]].concat();
             let [answer, _, smram] = self.asked(&list, 3)[..] else { panic!("three answers") };
@@ -589,7 +675,7 @@ mod tests {
         /// window of the board's own. A table in main memory is at 20000h. Not locked, so that the entry is stored.
         fn met(&mut self, smram: u32, page: u32) -> &'static str {
             let on = if smram & 0xC0 == 0 { smram | 0xC0 } else { smram } & !2;
-            let mut list = setup(on, 0x8000_0000, 0x4000_0000, 1);
+            let mut list = [setup(on, 0x8000_0000, 0x4000_0000, 1), self.shadow.clone()].concat();
             let registers =
                 [(names::PGTBL_CTL, 0x2_0001), (0x1_0010, page | 1), (0x2038, 0x4000), (0x203C, 1), (0x2030, 8)];
             list.extend(registers.map(|(at, data)| Record::write(0x4000_0000 + at, 4, data, false)));
@@ -606,8 +692,15 @@ mod tests {
         fn check(&mut self, row: &Row, setup: &[Record], smram: u32, address: u32) {
             let [processor, data, code, master] = probes(address).map(|probe| self.goes(setup, probe));
             let management = if data == code { data } else { "code memory" };
+            let mut expected = [processor, management, master].map(str::to_string);
+            if words::SHADOW.contains(&address) {
+                let writes = write_probes(address).map(|probe| self.goes(setup, probe));
+                for (read, write) in expected.iter_mut().zip(writes).filter(|(read, write)| read != write) {
+                    read.push_str(&format!("/{write}"));
+                }
+            }
             let found = row.cells.each_ref().map(|cell| cell.text.split(" (").next().unwrap_or_default());
-            assert_eq!(found[..3], [processor, management, master], "{address:X}h, SMRAM {smram:X}h");
+            assert_eq!(found[..3], expected, "{address:X}h, SMRAM {smram:X}h");
             let graphics = if address < 0x4000_0000 { self.met(smram, address & !0xFFF) } else { "-" };
             assert_eq!(found[3], graphics, "{address:X}h, SMRAM {smram:X}h");
             assert_eq!(row.protected, graphics == "refused 6", "{address:X}h, SMRAM {smram:X}h");
@@ -627,10 +720,54 @@ mod tests {
                 let records = setup(smram, window, registers, number as u32 & 1);
                 let list = List::binary(String::new(), record::encode(&records)).expect("whole records");
                 let map = Map::after(board, &memory, &list).expect("a map");
-                asked += check(&map, board, &memory, &records, smram);
+                asked += check(&map, board, &memory, &records, smram, &[]);
             }
         }
         asked
+    }
+
+    /// Request 8 of document 02: each segment with each pair, and the hole with U below it, in it and above it.
+    #[test]
+    fn every_address_of_shadow_memory_goes_where_its_row_says() {
+        let mut asked = 0;
+        // U is F00000h, F80000h, 1000000h, 1700000h and 800000h.
+        for (number, (mebibytes, smram)) in
+            [(16, 0x7C), (16, 0x80), (16, 0x00), (24, 0x4E | 0x30), (8, 0x48)].into_iter().enumerate()
+        {
+            let board = Board::ALL[number % 4];
+            let memory = Memory::zeros(board, mebibytes << 20);
+            for (pamr, fdhc) in [(0x00, 0x80), (0x1B, 0x00), (0xB1, 0xFF), (0x6C, 0x80), (0xC6, 0x7F), (0xFF, 0x80)] {
+                let shadow = shadow(pamr, fdhc);
+                let records = [setup(smram, 0xC000_0000, 0xF000_0000, 0), shadow.clone()].concat();
+                let list = List::binary(String::new(), record::encode(&records)).expect("whole records");
+                let map = Map::after(board, &memory, &list).expect("a map");
+                asked += check(&map, board, &memory, &records, smram, &shadow);
+                let named = |name| map.rows.iter().filter(|row| row.name == name).count();
+                assert_eq!(named("hole"), usize::from(fdhc & 0x80 != 0 && number != 0 && number != 4));
+                let segments = match pamr {
+                    0x00 | 0xFF => 1,
+                    _ => 4,
+                };
+                assert_eq!(named("BIOS"), segments, "PAMR {pamr:02X}h");
+            }
+        }
+        assert!(asked > 1_000, "{asked}");
+    }
+
+    /// The map's own writes come after the table was looked at: it is shown as the list left it, wherever it lies.
+    #[test]
+    fn a_table_in_shadow_memory_is_shown_as_it_was_left() {
+        let board = Board::I82810Main;
+        let memory = Memory::zeros(board, 8 << 20);
+        let mut records = [setup(0x4C, 0xC000_0000, 0xF000_0000, 0), shadow(0xFF, 0)].concat();
+        records.push(Record::write(0xF000_0000 + names::PGTBL_CTL, 4, 0xC_0001, false));
+        // The words at C0000h, and those where a segment starts.
+        let entries = [0_u32, 1, 0x4000 - 1].map(|entry| (entry, (0x10_0000 + 4096 * entry) | 1));
+        records.extend(entries.map(|(entry, word)| Record::write(0xC_0000 + 4 * entry, 4, word, false)));
+        let list = List::binary(String::new(), record::encode(&records)).expect("whole records");
+        let map = Map::after(board, &memory, &list).expect("a map");
+        let runs: Vec<(u32, u32)> = map.table.mappings.iter().map(|mapping| (mapping.first, mapping.last)).collect();
+        assert_eq!(runs, [(0, 1), (0x3FFF, 0x3FFF)]);
     }
 
     #[test]
@@ -645,8 +782,8 @@ mod tests {
         assert!(asked > 500, "{asked}");
     }
 
-    fn check(map: &Map, board: Board, memory: &Memory, setup: &[Record], smram: u32) -> usize {
-        let mut proved = Proved { board, lent: memory.fresh() };
+    fn check(map: &Map, board: Board, memory: &Memory, setup: &[Record], smram: u32, shadow: &[Record]) -> usize {
+        let mut proved = Proved { board, lent: memory.fresh(), shadow: shadow.to_vec() };
         let (mut lent, mut table) = (memory.fresh(), Box::new([0; TABLE_WORDS]));
         let Lent { memory, display } = &mut lent;
         let mut hub = Gmch::observed(board, memory, &mut table, display, Heard::default()).expect("a board");
@@ -660,11 +797,16 @@ mod tests {
             next = u64::from(row.last) + 1;
             let inside = row.first + (row.last - row.first) / 3;
             for address in [row.first, row.first + 4, inside & !3, row.last & !3] {
-                let rules = probes(address).map(|probe| {
+                let mut goes = |probe| {
                     hub.answer(&probe);
                     hub.observer().0.take().expect("every address is routed")
-                });
-                let found = [cell(rules[0]), management(rules[1], rules[2]), cell(rules[3])];
+                };
+                let rules = probes(address).map(&mut goes);
+                let mut found = [cell(rules[0]), management(rules[1], rules[2]), cell(rules[3])];
+                if words::SHADOW.contains(&address) {
+                    let writes = write_probes(address).map(|probe| cell(goes(probe)));
+                    found = [0, 1, 2].map(|column| split(&found[column], &writes[column]));
+                }
                 assert_eq!(found, row.cells[..3], "{address:X}h");
                 assert_eq!(hub.protected(address), row.protected, "{address:X}h");
                 proved.check(row, setup, smram, address);

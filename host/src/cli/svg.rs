@@ -3,8 +3,8 @@
 //! It has its own background, so that it can be read in any viewer, and darker colours for viewers
 //! that prefer them. Every range carries its words; the colours only repeat them.
 
-use super::map::NOTES;
 use super::survey::{Class, Map, Row, COLUMNS};
+use super::words;
 
 const ROW: usize = 40;
 const LEFT: usize = 132;
@@ -13,6 +13,8 @@ const RIGHT: usize = 112;
 const WIDTH: usize = LEFT + 4 * COLUMN + RIGHT;
 const HEADING: usize = 30;
 const LINE: usize = 20;
+/// Characters of a line of text that find room in the width.
+const CHARACTERS: usize = 112;
 
 const STYLE: &str = "\
   text { font-family: 'DejaVu Sans', 'Segoe UI', Helvetica, Arial, sans-serif; font-size: 14px; fill: #1b1f24 }
@@ -24,6 +26,7 @@ const STYLE: &str = "\
   .cell { stroke: #57606a; stroke-width: 1 }
   .memory { fill: #c9e8cd } .registers { fill: #cfe0fa } .window { fill: #e2d4f7 } .vga { fill: #f6ebb8 }
   .hub { fill: #eceef0 } .error { fill: #fbdcbc } .refused { fill: #f9cccc } .nothing { fill: #ffffff }
+  .split { fill: #c6e6e6 }
   .protected { fill: none; stroke: #b3191f; stroke-width: 3 }
   .mark { fill: #b3191f; font-weight: bold }
   @media (prefers-color-scheme: dark) {
@@ -31,14 +34,17 @@ const STYLE: &str = "\
     .paper { fill: #15191e } .cell { stroke: #8b949e }
     .memory { fill: #1d4a2a } .registers { fill: #1f3f6e } .window { fill: #46307a } .vga { fill: #584a10 }
     .hub { fill: #2c333b } .error { fill: #6b3d0d } .refused { fill: #6e1d20 } .nothing { fill: #15191e }
+    .split { fill: #174a4e }
     .protected { stroke: #ff7b72 } .mark { fill: #ff7b72 }
   }
 ";
 
 /// The picture, with the highest address on top as the datasheet draws it.
 pub fn draw(map: &Map) -> String {
-    let top = 44 + LINE * map.lines.len() + HEADING;
-    let height = top + ROW * map.rows.len() + 28 + LINE * (NOTES.len() + 1);
+    let (lines, notes) = (map.lines.iter().flat_map(|line| words::wrapped(line, CHARACTERS)), map.notes());
+    let lines: Vec<String> = lines.collect();
+    let top = 44 + LINE * lines.len() + HEADING;
+    let height = top + ROW * map.rows.len() + 28 + LINE * (notes.len() + 1);
     let mut svg = format!(
         "<svg xmlns=\"http://www.w3.org/2000/svg\" width=\"{WIDTH}\" height=\"{height}\" \
          viewBox=\"0 0 {WIDTH} {height}\" role=\"img\">\n<title>{}</title>\n<style>\n{STYLE}</style>\n\
@@ -46,7 +52,7 @@ pub fn draw(map: &Map) -> String {
         escaped(&map.title)
     );
     text(&mut svg, "title", 16, 30, &map.title);
-    for (number, line) in map.lines.iter().enumerate() {
+    for (number, line) in lines.iter().enumerate() {
         text(&mut svg, "", 16, 54 + LINE * number, line);
     }
     for (number, column) in COLUMNS.iter().enumerate() {
@@ -60,7 +66,7 @@ pub fn draw(map: &Map) -> String {
     }
     let foot = top + ROW * map.rows.len() + 28;
     text(&mut svg, "", 16, foot, "Framed in red: protected. Not to scale.");
-    for (number, note) in NOTES.iter().enumerate() {
+    for (number, note) in notes.iter().enumerate() {
         text(&mut svg, "", 16, foot + LINE * (number + 1), note);
     }
     svg.push_str("</svg>\n");
@@ -108,6 +114,7 @@ fn class(class: Class) -> &'static str {
         Class::Window => "window",
         Class::Vga => "vga",
         Class::Hub => "hub",
+        Class::Split => "split",
         Class::Error => "error",
         Class::Refused => "refused",
         Class::Nothing => "nothing",
