@@ -43,6 +43,8 @@ samples! {
     request_5_where_it_was_refused: "request-5-where-it-was-refused",
     request_5_word_of_the_table: "request-5-word-of-the-table",
     request_6_one_gibibyte: "request-6-one-gibibyte",
+    request_8_shadow_memory: "request-8-shadow-memory",
+    request_8_table_in_main_memory: "request-8-table-in-main-memory",
     request_9_no_bad_entries: "request-9-no-bad-entries",
     request_9_table_in_main_memory: "request-9-table-in-main-memory",
     request_10_table_in_main_memory: "request-10-table-in-main-memory",

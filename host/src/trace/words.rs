@@ -186,7 +186,7 @@ pub const fn hole(on: bool) -> &'static str {
 /// use mitrophel::trace::words;
 ///
 /// assert_eq!(words::hole_below(true, 0x200_0000), "hole at F00000h-FFFFFFh");
-/// assert_eq!(words::hole_below(true, 0xF8_0000), "hole at F00000h-FFFFFFh, acts below U alone, F80000h");
+/// assert_eq!(words::hole_below(true, 0xF8_0000), "hole at F00000h-FFFFFFh, acts only below U, F80000h");
 /// assert_eq!(words::hole_below(true, 0x80_0000), "hole at F00000h-FFFFFFh, acts nowhere: U is 800000h");
 /// assert_eq!(words::hole_below(false, 0x80_0000), "no hole");
 /// ```
@@ -195,7 +195,7 @@ pub fn hole_below(on: bool, usable_top: u32) -> String {
     if !on || usable_top >= HOLE.end {
         hole.to_string()
     } else if usable_top > HOLE.start {
-        format!("{hole}, acts below U alone, {usable_top:X}h")
+        format!("{hole}, acts only below U, {usable_top:X}h")
     } else {
         format!("{hole}, acts nowhere: U is {usable_top:X}h")
     }
