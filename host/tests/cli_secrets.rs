@@ -29,7 +29,7 @@ fn list(random: &mut Random, locked: bool) -> String {
         let (mode, who) = (random.pick(&["", "smm "]), random.pick(&["", "smm ", "master "]));
         // Where it is locked, entries are written more often.
         let more = locked && random.below(3) == 0;
-        list += &match if more { 4 } else { random.below(13) } {
+        list += &match if more { 4 } else { random.below(14) } {
             0 => format!("config write dev0.SMRAM {}\n", random.pick(smrams)),
             1 => format!("write PGTBL_CTL {}\n", random.pick(TABLES)),
             2 => format!("smm write4 {} KEY\n", random.pick(KEYS)),
@@ -44,25 +44,40 @@ fn list(random: &mut Random, locked: bool) -> String {
             8 => format!("{mode}write4 WINDOW+{offset:X}h 0\n"),
             9 => format!("write FENCE0 {}\n", random.pick(&["0", "31h", "51h", "71h"])),
             10 if random.below(3) == 0 => format!("reset\nconfig write dev0.SMRAM {}\n{BASES}", random.pick(smrams)),
+            // Neither changes what is protected: request 8 of document 02.
+            13 if random.below(2) == 0 => format!("config write dev0.FDHC {}\n", random.pick(&["0", "80h"])),
+            13 => format!("config write dev0.PAMR {}\n", random.pick(&["0", "55h", "AAh", "FFh"])),
             _ => format!("{mode}read{} WINDOW+{offset:X}h\n", random.pick(&["1", "2", "4"])),
         };
     }
     list + "config write dev0.SMRAM 7Ch\n"
 }
 
+/// The same list for 16 MiB, where the TSEG lies in the hole's range.
+fn moved(list: &str) -> String {
+    let places = [("70000", "F0000"), ("7FF", "FFF"), ("6FF001h", "EFF001h")];
+    places.iter().fold(list.to_string(), |list, (old, new)| list.replace(&format!(" {old}"), &format!(" {new}")))
+}
+
 /// Two keys that are good entries, of main memory or of the display cache, and name pages that nothing else is in.
 #[test]
 fn what_is_printed_does_not_depend_on_the_key() {
     let commands: [&[&str]; 5] = [&["replay"], &["replay", "--json"], &["state"], &["map"], &["disasm"]];
-    let (mut hidden, mut offsets, mut forbidden) = ([0; 3], [0; 3], [0; 2]);
-    for seed in 0..112 {
+    let (mut hidden, mut offsets, mut forbidden, mut shut) = ([0; 3], [0; 3], [0; 3], [0; 1]);
+    for seed in 0..128 {
+        let large = seed % 3 == 1;
         let list = list(&mut Random::new(seed), seed >= 80);
+        let list = if large { moved(&list) } else { list };
         let keys = if seed / 4 % 2 == 0 { ["00345001h", "00346001h"] } else { ["00345003h", "00346003h"] };
         let [first, second] = keys
             .map(|key| trace::assemble(&list.replace("KEY", key)).unwrap_or_else(|errors| panic!("{errors}")).records);
         let board = Board::ALL[seed as usize % 4].name();
         for command in commands {
-            let options: &[&str] = if command == ["disasm"] { &["-"] } else { &["--board", board, "--binary", "-"] };
+            let memory = if large { "16M" } else { "8M" };
+            let options: &[&str] = match command {
+                ["disasm"] => &["-"],
+                _ => &["--board", board, "--memory", memory, "--binary", "-"],
+            };
             let [one, two] = [&first, &second].map(|records| run_with(&[command, options].concat(), records));
             assert_eq!((one.status, one.errors.as_str()), (DONE, ""), "seed {seed}, board {board}");
             for (one, two) in one.text.lines().zip(two.text.lines()) {
@@ -82,11 +97,14 @@ fn what_is_printed_does_not_depend_on_the_key() {
                 offsets[2] += usize::from(line.contains('\u{B7}'));
             }
             // A store that is refused with 16: its page is told, or not where its word would be among the key's.
-            for (seen, part) in forbidden.iter_mut().zip(["protected page 700000h", "protected page \u{B7}\u{B7},"]) {
+            let parts = ["protected page 700000h", "protected page F00000h", "protected page \u{B7}\u{B7},"];
+            for (seen, part) in forbidden.iter_mut().zip(parts) {
                 *seen += one.text.matches(part).count();
             }
+            // The hole, where the key is at another time.
+            shut[0] += one.text.matches("the hole at F00000h-FFFFFFh").count();
         }
     }
-    let mut seen = hidden.iter().chain(&offsets).chain(&forbidden);
-    assert!(seen.all(|seen| *seen > 20), "{hidden:?}, {offsets:?}, {forbidden:?}");
+    let mut seen = hidden.iter().chain(&offsets).chain(&forbidden).chain(&shut);
+    assert!(seen.all(|seen| *seen > 20), "{hidden:?}, {offsets:?}, {forbidden:?}, {shut:?}");
 }

@@ -57,9 +57,11 @@ fn an_empty_list_shows_the_cold_start() {
 #[test]
 fn every_register_is_as_a_read_finds_it() {
     let setup = format!(
-        "{DESK}config write dev0.MISCC2 5Ah\nconfig write dev1.SVID 1234h\nconfig write dev1.GMADR C2000008h\n\
-         config write dev0.BUFF_SC 1234h\nconfig write dev1.PM_CS 3\nconfig write dev1.PM_CS 102h\nwrite FENCE3 03F81771h\nwrite LP_RING_TAIL 12340h\nwrite LP_RING_HEAD A0000104h\n\
-         write LP_RING_START 3FFF000h\nwrite LP_RING_LENGTH 1F001h\nwrite IER 1234h\nwrite IMR 4321h\nread4 700000h\n"
+        "{DESK}config write dev0.PAMR B1h\nconfig write dev0.FDHC FFh\nconfig write dev0.MISCC2 5Ah\n\
+         config write dev1.SVID 1234h\nconfig write dev1.GMADR C2000008h\nconfig write dev0.BUFF_SC 1234h\n\
+         config write dev1.PM_CS 3\nconfig write dev1.PM_CS 102h\nwrite FENCE3 03F81771h\n\
+         write LP_RING_TAIL 12340h\nwrite LP_RING_HEAD A0000104h\nwrite LP_RING_START 3FFF000h\n\
+         write LP_RING_LENGTH 1F001h\nwrite IER 1234h\nwrite IMR 4321h\nread4 700000h\n"
     );
     let text = state(&setup);
     let mut asked = Vec::new();

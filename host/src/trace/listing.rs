@@ -413,6 +413,11 @@ mod tests {
                         records.push(Record::io_write(0xCFC, 1, smram));
                     }
                     1 if random.one_in(4) => records.push(Record::reset()),
+                    // PAMR and FDHC, which change nothing of it.
+                    1 => {
+                        records.push(Record::io_write(0xCF8, 4, random.pick(&[0x8000_0050, 0x8000_0058])));
+                        records.push(Record::io_write(0xCFC, 4, random.next()));
+                    }
                     _ => {
                         let address = random.pick(&EDGES) + random.below(4);
                         records.push(Record::write(address, random.pick(&[1, 2, 4]), random.next(), !random.one_in(4)));
