@@ -6,7 +6,7 @@ use mathlib.Core.Bool.{Bool, true, false}
 use native.Mathlib.Omega.{arith}
 use lib.ListN.{length}
 use Rattle.gmch.specs.Records.{fitsWord}
-use Rattle.gmch.specs.Map.{Tom, Sized, Cached, mapFrom, mapOf, routeOf}
+use Rattle.gmch.specs.Map.{Tom, Sized, Cached, mapFrom, mapOf, Shadow, routeOf}
 use Rattle.gmch.specs.Machine.{cacheSize, cacheLength}
 use Rattle.gmch.specs.Access.{targetIn}
 use Rattle.gmch.specs.declared.Board.{Board}
@@ -37,11 +37,11 @@ in-window h registers-safe = tt
 in-window h (offset-safe o l k) = omega arith
 
 -- the route of an access that code 2 lets pass
-pub route-ready : (table main : List ℕ) (m : Map) (a : Access) (r : Route) → Sized m table main → fitsWord (a .width) (a .address) ≡ true
-    → r ≡ routeOf m a → Sized m table main × InWindow r
-route-ready table main m a r z f k =
+pub route-ready : (table main : List ℕ) (m : Map) (q : Shadow) (a : Access) (r : Route) → Sized m table main → fitsWord (a .width) (a .address) ≡ true
+    → r ≡ routeOf m q a → Sized m table main × InWindow r
+route-ready table main m q a r z f k =
     let h = fits-width (a .width) (a .address) f .1 in
-    rw k (z, in-window (z .1) (route-safe m (z .0) a h (z .2)))
+    rw k (z, in-window (z .1) (route-safe m (z .0) a h q (z .2)))
 
 -- ---- targets
 
@@ -58,9 +58,9 @@ reachable z c d mapped-safe = tt
 reachable z c d (entry-safe p l h n) = omega arith
 reachable z c d cache-register-safe = tt
 
-module _ (m : Map) (cf8 : ℕ) (fences : List ℕ) (control : ℕ) (look : ℕ → Look) (kind : ℕ) (a : Access) where
+module _ (m : Map) (q : Shadow) (cf8 : ℕ) (fences : List ℕ) (control : ℕ) (look : ℕ → Look) (kind : ℕ) (a : Access) where
   abbrev t : Target
-  t = targetIn m cf8 fences control look kind a
+  t = targetIn m q cf8 fences control look kind a
 
   misfit-refused : fitsWord (a .width) (a .address) ≡ false → t ≡ Refused 2 0
   unfolding targetIn
@@ -70,5 +70,5 @@ module _ (m : Map) (cf8 : ℕ) (fences : List ℕ) (control : ℕ) (look : ℕ �
   target-reachable cache z g c = by (fitsWord (a .width) (a .address)) refl
     where
       by : (f : Bool) → fitsWord (a .width) (a .address) ≡ f → Reachable (m .tom) (length cache) (a .width) t
-      by true e = reachable z (c .whole) (fits-width (a .width) (a .address) e .0) (target-safe m cf8 fences control look kind a z g)
+      by true e = reachable z (c .whole) (fits-width (a .width) (a .address) e .0) (target-safe m q cf8 fences control look kind a z g)
       by false e = rw (misfit-refused e) tt

@@ -17,7 +17,7 @@ ghost use Rattle.gmch.specs.Choice.{pick};
 ghost use Rattle.gmch.specs.Words.{loadLe, storeLe};
 ghost use Rattle.gmch.specs.Records.{reply};
 ghost use Rattle.gmch.specs.Machine.{machine};
-ghost use Rattle.gmch.specs.Map.{Tom, Sized, mapIn};
+ghost use Rattle.gmch.specs.Map.{Tom, Sized, mapIn, shadowIn};
 ghost use Rattle.gmch.specs.Table.{wordReach, lookIn};
 ghost use Rattle.gmch.specs.Mapped.{isEntry, entryNumber, mappedValue, tableWritten};
 ghost use Rattle.gmch.specs.Access.{entryTarget, resolved, targetIn, settled, act};
@@ -60,8 +60,6 @@ pub fn map_of<'a>(b: Board, dev0: &'a [u8; 256], dev1: &'a [u8; 256], dram: &'a 
 {
     map::map_from(
         b,
-        dev0[0x51],
-        dev0[0x58],
         dev0[0x70],
         dev0[0x72],
         dev1[0x04],
@@ -131,6 +129,7 @@ fn resolve(
 // An access of kinds 1 to 7.
 pub fn target_of(
     m: Map,
+    dev0: &[u8; 256],
     cf8: u32,
     fences: &[u32; 8],
     control: u32,
@@ -140,7 +139,7 @@ pub fn target_of(
     a: Access,
 ) -> Target
     requires { ⌜ Sized m (now table) (now memory) ⌝ }
-    ensures { λ t. ⌜ t ≡ targetIn m cf8 (now (fences .entry)) control (lookIn m control (now (table .entry)) (now (memory .entry))) kind a ⌝ }
+    ensures { λ t. ⌜ t ≡ targetIn m (shadowIn (now (dev0 .entry))) cf8 (now (fences .entry)) control (lookIn m control (now (table .entry)) (now (memory .entry))) kind a ⌝ }
 {
     if !records::fits_word(a.width, a.address) {
         return Target::Refused(2, 0);
@@ -149,10 +148,10 @@ pub fn target_of(
         return config::port_target(cf8, m.smram, a.width, a.address);
     }
     if kind <= 5 {
-        let route = map::route(m, a);
+        let route = map::route(m, dev0, a);
         return resolve(m, fences, control, table, memory, a, route);
     }
-    map::master_target(m, a)
+    map::master_target(m, dev0, a)
 }
 
 // ---- what it does there

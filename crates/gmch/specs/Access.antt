@@ -10,7 +10,7 @@ use Rattle.gmch.specs.Records.{accessOf, fitsWord, reply}
 use Rattle.gmch.specs.Smram.{lockBit}
 use Rattle.gmch.specs.Config.{withDram, withError, portTarget, registerValue, registerWritten}
 use Rattle.gmch.specs.Machine.{Machine, withState, withTable, withMain, withCache}
-use Rattle.gmch.specs.Map.{mapOf, routeOf, masterTarget}
+use Rattle.gmch.specs.Map.{mapOf, Shadow, shadowIn, routeOf, masterTarget}
 use Rattle.gmch.specs.Table.{forbidden, windowReach, inMemory, wordReach, lookOf}
 use Rattle.gmch.specs.Mapped.{listedByte, misfit, isEntry, entryNumber, mappedValue, mappedWritten, stored, tableWritten, dramValue, dramWritten}
 use Rattle.gmch.specs.declared.Board.{Board}
@@ -51,18 +51,18 @@ resolved m fences control look a (Registers o) =
 resolved m fences control look a (Window o) = reached (windowReach m fences control look o)
 
 -- an access of kinds 1 to 7: 2; ports; the processor; hub masters
-unfoldable pub targetIn : Map → ℕ → List ℕ → ℕ → (ℕ → Look) → ℕ → Access → Target
-targetIn m cf8 fences control look kind a =
+unfoldable pub targetIn : Map → Shadow → ℕ → List ℕ → ℕ → (ℕ → Look) → ℕ → Access → Target
+targetIn m q cf8 fences control look kind a =
     pick (not (fitsWord (a .width) (a .address))) (Refused 2 0)
     (pick (leb kind 2) (portTarget cf8 (m .smram) (a .width) (a .address))
-    (pick (leb kind 5) (resolved m fences control look a (routeOf m a))
-    (masterTarget m a)))
+    (pick (leb kind 5) (resolved m fences control look a (routeOf m q a))
+    (masterTarget m q a)))
 
 -- a record of these kinds that keeps the layout
 unfoldable pub targetOf : Board → Machine → Record → Target
 targetOf b x r =
     let s = x .state in
-    targetIn (mapOf b s) (s .cf8) (s .fences) (s .regs .control) (lookOf b x) (r .kind) (accessOf r)
+    targetIn (mapOf b s) (shadowIn (s .dev0)) (s .cf8) (s .fences) (s .regs .control) (lookOf b x) (r .kind) (accessOf r)
 
 -- ---- code 16: after all others, and the only one that looks at the record's data
 

@@ -115,7 +115,7 @@ pub fn decide<'a>(
         };
     }
     let a = records::access_of(r);
-    let t = access::target_of(m, cf8, fences, regs.control, table, memory, r.kind, a);
+    let t = access::target_of(m, dev0, cf8, fences, regs.control, table, memory, r.kind, a);
     access::act(
         m,
         cf8,

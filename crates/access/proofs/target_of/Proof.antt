@@ -23,7 +23,7 @@ resolve-requires c κs =
     let w = c .before .before .before .before in
     let f = not-false _ (flag (ap not (w .fits-word .ensures)) (c .before .before .before .if1 .left)) in
     let s = w .before .before .before in
-    route-ready (s .args .table .now) (s .args .memory .now) _ _ _ (s .pre) f (c .route .ensures)
+    route-ready (s .args .table .now) (s .args .memory .now) _ _ _ _ (s .pre) f (c .route .ensures)
 
 returns-3 : tie.Need-returns-3
 unfolding targetIn

@@ -12,5 +12,6 @@ shadow-target-spec =
     (tie.spec
     (λ c κs. search needs)
     (λ c. omega arith)
+    (λ c. omega arith)
     (λ c. unfold shadowTarget in search (tests, ← c .before .shadow-bit .ensures .0))
     (λ c. unfold shadowTarget in search (tests, ← c .before .shadow-bit .ensures .0)))

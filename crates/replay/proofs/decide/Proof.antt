@@ -36,7 +36,7 @@ act-requires : tie.Need-act-requires
 act-requires c κs =
     let x = c .before .before .before .before .before .before .before .before .before .before .before .before .before .before .before .before in
     let z = x .pre in
-    (z .1 .0, z .1 .3, rw (z .1 .4, c .before .before .before .target-of .ensures) (target-reachable _ _ _ _ _ _ _ (x .args .display .now) (z .1 .0) (z .1 .2) (z .2)))
+    (z .1 .0, z .1 .3, rw (z .1 .4, c .before .before .before .target-of .ensures) (target-reachable _ _ _ _ _ _ _ _ (x .args .display .now) (z .1 .0) (z .1 .2) (z .2)))
 
 returns-4 : tie.Need-returns-4
 unfolding targetOf
