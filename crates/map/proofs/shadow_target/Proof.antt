@@ -1,6 +1,5 @@
--- By the test of the branch, on the bit that the call gave.
+-- By the tests of each branch, on the pair that the call gave.
 use borrow.Author.Needs.{needs}
-use native.Mathlib.Omega.{arith}
 use Rattle.gmch.proofs.Choice.{tests}
 use Rattle.gmch.specs.Map.{shadowTarget}
 use Rattle.map.proofs.shadow_target.Statement.{statement}
@@ -11,7 +10,7 @@ shadow-target-spec =
     tie.close
     (tie.spec
     (λ c κs. search needs)
-    (λ c. omega arith)
-    (λ c. omega arith)
-    (λ c. unfold shadowTarget in search (tests, ← c .before .shadow-bit .ensures .0))
-    (λ c. unfold shadowTarget in search (tests, ← c .before .shadow-bit .ensures .0)))
+    (λ c. unfold shadowTarget in search (tests, ← c .before .before .pair-of .ensures))
+    (λ c. unfold shadowTarget in search (tests, ← c .before .before .pair-of .ensures))
+    (λ c. unfold shadowTarget in search (tests, ← c .before .before .pair-of .ensures))
+    (λ c. unfold shadowTarget in search (tests, ← c .before .before .pair-of .ensures)))
