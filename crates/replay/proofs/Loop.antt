@@ -1,11 +1,12 @@
 -- The replay over flat bytes is that of the definitions.
-use Prim.Native.Nat.{ℕ, zero, suc, _+_, _-_, _*_, _/_, _≤_, _<_}
+use Prim.Native.Nat.{ℕ, zero, suc, _+_, _-_, _*_, _/_, _%_, _≤_, _<_}
 use mathlib.Core.Path.{_≡_, refl, sym, ap, _∙_}
 use mathlib.Core.List.{List, _++_, append-assoc, append-nil}
 use native.Mathlib.Omega.{arith}
+use native.Mathlib.Nat.{sub-zero}
 use lib.ListN.{length, take, drop, length-append}
 use lib.Seq.{sets, sets-eq, length-sets, drop-drop, length-take-le, take-at, take-all}
-use Rattle.gmch.specs.Records.{answerBytes}
+use Rattle.gmch.specs.Records.{recordOf, answerBytes}
 use Rattle.gmch.specs.Mapped.{lineOf}
 use Rattle.gmch.specs.Ring.{withHead}
 use Rattle.gmch.specs.Config.{withCf8, withRegs, configWrite}
@@ -66,25 +67,35 @@ module _ (b : Board) (records : List ℕ) where
       let k : n - i ≡ suc (n - (i + 1)) = omega arith in
       rw (k, e) refl
 
+  -- what is left of the replay where the next record is that at the byte `at`
+  abbrev pub restAt : ℕ → Machine → List ℕ → Flat
+  restAt at x answers = replayFrom b records (length records / 16 - at / 16) (at / 16) x answers
+
   -- the same turn, by what the loop's calls give
-  pub turn : (n i : ℕ) (s s′ : State) (table table′ main main′ cache cache′ answers answers′ : List ℕ) (r : Record) (d : Decided) (line : ℕ)
-      → i < n → r ≡ recordAt records i → carried s table′ main′ cache′ d ≡ oneRecord b (machine s table main cache) r
-      → s′ ≡ applied s (d .effect) → line ≡ lineOf (s′ .regs) → answers′ ≡ sets answers (16 * i) (answerBytes (d .answer) line)
-      → replayFrom b records (n - (i + 1)) (i + 1) (machine s′ table′ main′ cache′) answers′ ≡ replayFrom b records (n - i) i (machine s table main cache) answers
+  pub turn : (at : ℕ) (s s′ : State) (table table′ main main′ cache cache′ answers answers′ : List ℕ) (r : Record) (d : Decided) (line : ℕ)
+      → at % 16 ≡ 0 → length records % 16 ≡ 0 → at < length records
+      → r ≡ recordOf (take 16 (drop at records)) → carried s table′ main′ cache′ d ≡ oneRecord b (machine s table main cache) r
+      → s′ ≡ applied s (d .effect) → line ≡ lineOf (s′ .regs) → answers′ ≡ sets answers at (answerBytes (d .answer) line)
+      → restAt (at + 16) (machine s′ table′ main′ cache′) answers′ ≡ restAt at (machine s table main cache) answers
   unfolding answered
-  turn n i s s′ table table′ main main′ cache cache′ answers answers′ r d line h er ed es el ea =
-      rw (ea, el, es) (next-record n i (machine s table main cache) answers (carried s table′ main′ cache′ d) h (rw (← er) ed))
+  turn at s s′ table table′ main main′ cache cache′ answers answers′ r d line w k h er ed es el ea =
+      let e : 16 * (at / 16) ≡ at = omega arith in
+      let f : (at + 16) / 16 ≡ at / 16 + 1 = omega arith in
+      let o = carried s table′ main′ cache′ d in
+      let next = next-record (length records / 16) (at / 16) (machine s table main cache) answers o (omega arith) (rw e (rw (← er) ed)) in
+      rw (ea, el, es, f) (rw e at next)
 
   -- all records done
-  pub finished : (n i : ℕ) (x₀ x : Machine) (answers₀ answers : List ℕ) → n ≡ length records / 16 → 16 * n ≡ length answers₀ → n - i ≡ 0
-      → replayFrom b records (n - i) i x answers ≡ replayFrom b records n 0 x₀ answers₀ → Replays b x₀ records x answers
+  pub finished : (at : ℕ) (x₀ x : Machine) (answers₀ answers : List ℕ) → length records % 16 ≡ 0 → length answers₀ ≡ length records → length records ≤ at
+      → restAt at x answers ≡ restAt 0 x₀ answers₀ → Replays b x₀ records x answers
   unfolding replayFrom
-  finished n i x₀ x answers₀ answers en el e h =
-      let f = rw e at h in
-      let q = flat-same n 0 x₀ answers₀ (omega arith) in
+  finished at x₀ x answers₀ answers k l h rest =
+      let e : length records / 16 - at / 16 ≡ 0 = omega arith in
+      let f = rw (e, sub-zero) at rest in
+      let q = flat-same (length records / 16) 0 x₀ answers₀ (omega arith) in
       record {
-        machines = rw (← en) (ap (λ (y : Flat). y .after) f ∙ q .machines);
-        answers = rw (← en) (ap (λ (y : Flat). y .answers) f ∙ q .replies);
+        machines = ap (λ (y : Flat). y .after) f ∙ q .machines;
+        answers = ap (λ (y : Flat). y .answers) f ∙ q .replies;
       }
 
 -- ---- the state after an effect, with its map

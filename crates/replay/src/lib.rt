@@ -148,13 +148,12 @@ pub fn replay(
     requires { ⌜ Tom (b .tom) × (length (now table) ≡ 16384) × (length (now memory) ≡ b .tom) × (length (now records) % 16 ≡ 0) × (length (now answers) ≡ length (now records)) × (length (now display) ≡ cacheLength (b .kind)) ⌝ }
     ensures { λ s. ⌜ Replays b (machine start (now (table .entry)) (now (memory .entry)) (now (display .entry))) (now (records .entry)) (machine s (now (table .exit)) (now (memory .exit)) (now (display .exit))) (now (answers .exit)) ⌝ }
 {
-    let n = records.len() / 16;
+    let n = records.len();
     let mut s = start;
     // Read off the state once, and again after each effect that may change it.
     let mut m = access::map_of(b, &s.dev0, &s.dev1, &s.dram);
-    let mut i = 0;
-    while i < n {
-        let at = 16 * i;
+    let mut at = 0;
+    while at < n {
         let r = records::record_at(records, at);
         let regs = s.regs;
         let d = decide(
@@ -201,7 +200,7 @@ pub fn replay(
             }
         }
         records::put_answer(answers, at, d.answer, mapped::line(s.regs));
-        i = i + 1;
+        at = at + 16;
     }
     s
 }

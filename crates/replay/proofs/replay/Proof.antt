@@ -1,33 +1,32 @@
 -- What is left of the replay gives the whole: one law takes a turn of the loop, one ends it.
-use Prim.Native.Nat.{_≤_, _-_, _/_}
+use Prim.Native.Nat.{_-_, _%_}
 use mathlib.Core.Path.{_≡_, refl, _∙_}
 use mathlib.Core.Logic.{⊎-elim}
-use native.Mathlib.Nat.{sub-zero}
 use native.Mathlib.Omega.{arith}
 use borrow.Author.Needs.{needs}
 use lib.ListN.{length}
 use Rattle.gmch.specs.Machine.{cacheLength, machine}
 use Rattle.gmch.specs.Map.{mapOf}
 use Rattle.config.proofs.Stored.{stored-0, stored-1}
-use Rattle.replay.specs.Flat.{replayFrom}
 use Rattle.access.proofs.Bounds.{ready}
-use Rattle.replay.proofs.Loop.{Next, next, keep-is, ring-is, select-is, configure-is, rare-is, turn, finished}
+use Rattle.replay.proofs.Loop.{Next, next, keep-is, ring-is, select-is, configure-is, rare-is, restAt, turn, finished}
 use Rattle.replay.proofs.replay.Statement.{statement}
 use Rattle.replay.proofs.replay.Tie as tie
 
 abbrev Inv-loop : tie.InvT-loop
-Inv-loop b table₀ memory₀ records answers₀ display₀ n s₀ m₀ i₀ table memory answers display s m i =
-    (i ≤ n) × (n ≡ length records / 16) × (length table ≡ 16384) × (length memory ≡ b .tom) × (length answers ≡ length records) × (m ≡ mapOf b s)
+Inv-loop b table₀ memory₀ records answers₀ display₀ n s₀ m₀ at₀ table memory answers display s m at =
+    (at % 16 ≡ 0) × (n ≡ length records) × (length table ≡ 16384) × (length memory ≡ b .tom) × (length answers ≡ length records) × (m ≡ mapOf b s)
     × (length display ≡ cacheLength (b .kind))
-    × (replayFrom b records (n - i) i (machine s table memory display) answers ≡ replayFrom b records n 0 (machine s₀ table₀ memory₀ display₀) answers₀)
+    × (restAt b records at (machine s table memory display) answers ≡ restAt b records 0 (machine s₀ table₀ memory₀ display₀) answers₀)
+    × (length records % 16 ≡ 0)
 
 abbrev μ-loop : tie.MeasureT-loop
-μ-loop b table₀ memory₀ records answers₀ display₀ n s₀ m₀ i₀ table memory answers display s m i = n - i
+μ-loop b table₀ memory₀ records answers₀ display₀ n s₀ m₀ at₀ table memory answers display s m at = n - at
 
 loop-holds : tie.Need-loop-holds Inv-loop μ-loop
 loop-holds c =
     let z = c .before .before .before .before .before .before .before .before .before .before .pre in
-    (omega arith, refl, z .1, z .2, z .4, c .map-of .ensures, z .5, rw sub-zero refl)
+    (refl, refl, z .1, z .2, z .4, c .map-of .ensures, z .5, refl, z .3)
 
 decide-requires : tie.Need-decide-requires Inv-loop μ-loop
 decide-requires c κs =
@@ -35,8 +34,8 @@ decide-requires c κs =
     let h = l .inv in
     ready _ (l .s) (l .table) (l .memory) (l .display) _ (h .5) (c .before .before .before .before .before .before .before .before .before .before .before .before .before .before .before .before .before .before .before .before .before .before .pre .0) (h .2) (h .3) (h .6)
 
-add-i : tie.Need-add-i Inv-loop μ-loop
-add-i c =
+add-at : tie.Need-add-at Inv-loop μ-loop
+add-at c =
     let t = c .before .before .before .before .before .before .before .before .before .before .before .before .before .before .before .before .before .before .before .before .before .before .before .before .loop-test in
     let g = c .before .before .before .before .before .before .before .before .before .before .before .before .before .before .before .before .before .before .before .before .before .before .before .before .before .before .before .before .before .before .before .before .before .before .before .before .good in
     let s = c .before .before .before .before .before .before .before .before .before .before .before .before .before .before .before .before .before .before .before .before .before .before .before .before .before .before .before .before .before .before .before .before .before .shared-slice-known in
@@ -70,14 +69,15 @@ loop-again c =
       p .kept .0 ∙ h .4,
       x .map,
       d .kept .1 .1 .1 .1 .1 .1 .1 .1 .1 .1 .0 ∙ h .6,
-      turn _ _ _ _ _ _ _ _ _ _ _ _ _ _ _ _ _ (t .taken) (c .before .before .before .before .before .before .before .before .before .before .before .before .before .before .before .before .before .before .before .before .before .before .before .record-at .ensures) (d .ensures .0 _ _) (x .state) (c .before .before .before .line .ensures) (p .ensures) ∙ h .7,
+      turn _ _ _ _ _ _ _ _ _ _ _ _ _ _ _ _ (h .0) (h .8) (rw (h .1) at (t .taken)) (c .before .before .before .before .before .before .before .before .before .before .before .before .before .before .before .before .before .before .before .before .before .before .before .record-at .ensures) (d .ensures .0 _ _) (x .state) (c .before .before .before .line .ensures) (p .ensures) ∙ h .7,
+      h .8,
     )
 
 returns : tie.Need-returns Inv-loop μ-loop
 returns c =
     let h = c .before .loop .inv in
     let q = c .before .before .before .before .before .before .before .before .before .before .before .before .pre in
-    finished _ _ _ _ _ _ _ _ (h .1) (omega arith) (omega arith) (h .7)
+    finished _ _ _ _ _ _ _ (h .8) (q .4) (omega arith) (h .7)
 
 pub replay-spec : {M : Type 1} → statement M
 replay-spec =
@@ -87,7 +87,6 @@ replay-spec =
     μ-loop
     (λ c κs. search needs)
     loop-holds
-    (λ c. omega arith)
     (λ c κs. omega arith)
     decide-requires
     (λ c. search needs)
@@ -107,7 +106,7 @@ replay-spec =
     (λ c κs. search needs)
     (λ c κs. search needs)
     (λ c κs. let t = c .before .before .before .before .before .before .before .before .before .before .before .before .before .before .before .before .before .before .before .before .before .loop-test in let h = c .before .before .before .before .before .before .before .before .before .before .before .before .before .before .before .before .before .before .before .before .before .before .loop .inv in omega arith)
-    add-i
+    add-at
     (λ c. let t = c .before .before .before .before .before .before .before .before .before .before .before .before .before .before .before .before .before .before .before .before .before .before .before .before .loop-test in let h = c .before .before .before .before .before .before .before .before .before .before .before .before .before .before .before .before .before .before .before .before .before .before .before .before .before .loop .inv in omega arith)
     loop-again
     (λ c. omega arith)
