@@ -10,7 +10,8 @@ shadow-target-spec =
     tie.close
     (tie.spec
     (λ c κs. search needs)
-    (λ c. unfold shadowTarget in search (tests, ← c .before .before .pair-of .ensures))
-    (λ c. unfold shadowTarget in search (tests, ← c .before .before .pair-of .ensures))
-    (λ c. unfold shadowTarget in search (tests, ← c .before .before .pair-of .ensures))
-    (λ c. unfold shadowTarget in search (tests, ← c .before .before .pair-of .ensures)))
+    (λ c. unfold shadowTarget in search (tests, ← c .before .pair-of .ensures))
+    (λ c. unfold shadowTarget in search (tests, ← c .before .before .before .pair-of .ensures))
+    (λ c. unfold shadowTarget in search (tests, ← c .before .before .before .pair-of .ensures))
+    (λ c. unfold shadowTarget in search (tests, ← c .before .before .before .pair-of .ensures))
+    (λ c. unfold shadowTarget in search (tests, ← c .before .before .before .pair-of .ensures)))
