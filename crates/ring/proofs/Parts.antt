@@ -23,12 +23,6 @@ at-word r b e = subst Aligned e (b .1)
 -- ---- a run
 
 module _ (fetch : Memories → ℕ → Look) (budget : ℕ) where
-  -- the budget is used up
-  pub spent : (count : ℕ) (r : Regs) (memories : Memories) (q : Parsed) → run fetch (budget - count) count r memories ≡ q → budget ≤ count
-      → parsed 0 r count memories ≡ q
-  unfolding run
-  spent count r memories q rest h = let e : budget - count ≡ 0 = omega arith in rw e at rest
-
   -- counted down from the budget: all of it is left, then one step less, then none
   pub all-left : (r : Regs) (memories : Memories) → run fetch (budget - (budget - budget)) (budget - budget) r memories ≡ run fetch budget 0 r memories
   all-left r memories = let e : budget - budget ≡ 0 = omega arith in rw (e, sub-zero) refl
@@ -40,7 +34,11 @@ module _ (fetch : Memories → ℕ → Look) (budget : ℕ) where
 
   pub none-left : (left : ℕ) (r : Regs) (memories : Memories) (q : Parsed) → left ≤ 0
       → run fetch (budget - (budget - left)) (budget - left) r memories ≡ q → parsed 0 r budget memories ≡ q
-  none-left left r memories q h rest = let e : budget - left ≡ budget = omega arith in spent budget r memories q (rw e at rest) (omega arith)
+  unfolding run
+  none-left left r memories q h rest =
+      let e : budget - left ≡ budget = omega arith in
+      let f : budget - budget ≡ 0 = omega arith in
+      rw (e, f) at rest
 
   -- its end is that of the whole run
   pub whole : (r : Regs) (memories : Memories) {q : Parsed} {x : Ran} → q ≡ run fetch budget 0 r memories → x ≡ q .ran

@@ -3,22 +3,21 @@ use borrow.Author.Needs.{needs}
 use Prim.Native.Nat.{_≤_, _-_}
 use mathlib.Core.Path.{_≡_, sym, _∙_}
 use native.Mathlib.Omega.{arith}
-use native.Mathlib.Nat.{sub-zero}
 use Rattle.gmch.specs.Machine.{lent}
 use Rattle.gmch.specs.Table.{fetchIn}
 use Rattle.gmch.specs.Ring.{run}
 use Rattle.gmch.proofs.Ring.{run-ended, run-failed, run-done}
-use Rattle.ring.proofs.Parts.{spent, whole}
+use Rattle.ring.proofs.Parts.{all-left, one-less, none-left, whole}
 use Rattle.ring.proofs.cache_run.Statement.{statement}
 use Rattle.ring.proofs.cache_run.Tie as tie
 
 abbrev Inv-loop : tie.InvT-loop
-Inv-loop m table memory display budget control q₀ steps₀ q steps =
-    (steps ≤ budget)
-    × (run (fetchIn m control table) (budget - steps) steps q (lent memory display) ≡ run (fetchIn m control table) budget 0 q₀ (lent memory display))
+Inv-loop m table memory display budget control q₀ rest₀ q rest =
+    (rest ≤ budget)
+    × (run (fetchIn m control table) (budget - (budget - rest)) (budget - rest) q (lent memory display) ≡ run (fetchIn m control table) budget 0 q₀ (lent memory display))
 
 abbrev μ-loop : tie.MeasureT-loop
-μ-loop m table memory display budget control q₀ steps₀ q steps = budget - steps
+μ-loop m table memory display budget control q₀ rest₀ q rest = rest
 
 returns : tie.Need-returns Inv-loop μ-loop
 returns c =
@@ -35,10 +34,10 @@ returns-2 c =
 loop-again : tie.Need-loop-again Inv-loop μ-loop
 loop-again c =
     let rest = run-done _ _ _ _ _ _ (c .before .before .before .before .before .loop .inv .1) (omega arith) _ (sym (c .before .before .before .step .ensures) ∙ c .before .after .given .1) in
-    (omega arith, rest)
+    (omega arith, one-less _ _ _ _ _ _ (c .before .before .before .before .loop-test .taken) (c .before .before .before .before .before .loop .inv .0) rest)
 
 returns-3 : tie.Need-returns-3 Inv-loop μ-loop
-returns-3 c = whole _ _ _ _ (spent _ _ _ _ _ _ (c .before .before .loop .inv .1) (omega arith)) (c .ran3 .ensures)
+returns-3 c = whole _ _ _ _ (none-left _ _ _ _ _ _ (omega arith) (c .before .before .loop .inv .1)) (c .ran3 .ensures)
 
 pub cache-run-spec : {M : Type 1} → statement M
 cache-run-spec =
@@ -46,11 +45,13 @@ cache-run-spec =
     (tie.spec
     Inv-loop
     μ-loop
-    (λ c. (omega arith, rw sub-zero))
+    (λ c. (omega arith, all-left _ _ _ _))
     (λ c κs. search needs)
+    (λ c. search needs)
     (λ c. search needs)
     (λ c κs. search needs)
     returns
+    (λ c. search needs)
     (λ c. search needs)
     (λ c κs. search needs)
     returns-2
