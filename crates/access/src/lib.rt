@@ -1,5 +1,7 @@
 // One access: where it ends, and what it does there. It is decided with the state only read; table and memories are changed
 // here, and what is left to do to the state is given as an effect.
+#![tactic(auto)]
+
 ghost use Rattle.std.specs.Prelude.{◌≡◌, true, ◌+◌, ◌≤◌, length, get_or};
 ghost use Rattle.gmch.specs.Choice.{pick};
 ghost use Rattle.gmch.specs.Words.{load_le, store_le};
@@ -15,7 +17,7 @@ ghost use Rattle.words.specs.Width.{Width};
 use gmch::{Access, Answer, Board, Map, Place, Reach, Regs, Route, Target};
 
 // What a record asks of the state. The replay's loop carries it out, in place where it comes often.
-#[derive(Drop)]
+#[derive(Clone, Copy)]
 pub enum Effect {
     Keep,
     // A parser run leaves this head and this interrupt identity.
@@ -28,7 +30,7 @@ pub enum Effect {
 }
 
 // What comes so rarely that the state may be copied.
-#[derive(Drop)]
+#[derive(Clone, Copy)]
 pub enum Rare {
     // A write of a fence or of a memory-mapped register: offset, value.
     Store(u32, u32),
@@ -41,7 +43,7 @@ pub enum Rare {
 }
 
 // What a record answers, and what it asks of the state.
-#[derive(Drop)]
+#[derive(Clone, Copy)]
 pub struct Decided {
     pub answer: Answer,
     pub effect: Effect,

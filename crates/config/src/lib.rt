@@ -1,4 +1,6 @@
 // Configuration space of document 01: cold start, the ports, reads and writes of registers.
+#![tactic(auto)]
+
 ghost use Rattle.std.specs.Prelude.{◌≡◌, ◌⊎◌, ◌+◌, ◌%◌, ◌<◌, ◌≤◌};
 ghost use Rattle.std.specs.Int.Bits.{bit_and};
 ghost use Rattle.gmch.specs.Config.{ours, port_target, register_value};

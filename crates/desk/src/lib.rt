@@ -1,4 +1,6 @@
 // The host's call: the one function that the archive exports.
+#![tactic(auto)]
+
 ghost use Rattle.std.specs.Prelude.{◌≡◌};
 ghost use Rattle.gmch.specs.Machine.{cache_length, lent};
 ghost use Rattle.gmch.specs.Call.{good_call};

@@ -154,7 +154,7 @@ record_supported b x r h =
 pub power_supported : (b : Board) (x : Machine) (rs : List (List ℕ)) → Supported x.state → Supported (replay b x rs).after.state
 unfolding replay
 power_supported b x [] h = h
-power_supported b x (r ∷ rs) h = power_supported b _ rs (record_supported b x (record_of r) h)
+power_supported b x (r ∷ rs) h = power_supported b (one_record b x (record_of r)).after rs (record_supported b x (record_of r) h)
 
 -- so none does from a cold start
 pub power_cold : (b : Board) (memories : Memories) (rs : List (List ℕ)) → Supported (replay b (cold_machine b memories) rs).after.state

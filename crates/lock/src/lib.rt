@@ -1,4 +1,6 @@
 // Code 16: what a write may not store in the translation table while SMRAM is locked.
+#![tactic(auto)]
+
 ghost use Rattle.std.specs.Prelude.{◌≡◌};
 ghost use Rattle.gmch.specs.Map.{Tom};
 ghost use Rattle.gmch.specs.Access.{barred};

@@ -1,4 +1,6 @@
 // The memory-mapped registers: the accesses that fit them, their values, what writes leave, and the interrupt line.
+#![tactic(auto)]
+
 ghost use Rattle.std.specs.Prelude.{◌≡◌, true, ◌<◌, length};
 ghost use Rattle.gmch.specs.Mapped.{listed_word, listed_half, listed_byte, misfit, is_entry, entry_number, is_fence, fence_number, regs_value, mapped_value, regs_written, mapped_written, stored, table_written, dram_value, dram_written, line_of};
 

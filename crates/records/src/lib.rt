@@ -1,5 +1,7 @@
 // Records and answers: the layout (code 13), the width (code 2), the access that a record asks for, and the answer for a
 // target.
+#![tactic(auto)]
+
 ghost use Rattle.std.specs.Prelude.{◌≡◌, ◌+◌, ◌≤◌, length, take, drop};
 ghost use Rattle.std.proofs.lemmas.List.Edits.{sets};
 ghost use Rattle.gmch.specs.Records.{record_of, is_write, is_processor, is_management, access_of, well_formed, fits_word, answer, reply, reset_reply, answer_bytes};

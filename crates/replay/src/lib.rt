@@ -1,6 +1,8 @@
 // One record of any content, and a list of records replayed.
 // A record is decided on the parts of the state, with table and memories lent; the state is changed in the loop, by an effect,
 // so that an access that reaches memory never copies it.
+#![tactic(auto)]
+
 ghost use Rattle.std.specs.Prelude.{◌≡◌, ◌%◌, length, get_or};
 ghost use Rattle.gmch.specs.Smram.{smram_error};
 ghost use Rattle.gmch.specs.Machine.{cache_length, machine};

@@ -1,4 +1,6 @@
 // The register rows of documents 01 and 02: the bytes at a cold start, and what a write may change.
+#![tactic(auto)]
+
 ghost use Rattle.std.specs.Prelude.{◌≡◌, ◌*◌, ◌<◌};
 ghost use Rattle.gmch.specs.Rows.{defaults_from, id_byte, cold_bytes};
 ghost use Rattle.rows.specs.Word.{joined, row_bits, fixed_bits, bits_of};
@@ -6,7 +8,7 @@ ghost use Rattle.rows.specs.Word.{joined, row_bits, fixed_bits, bits_of};
 use gmch::Row;
 
 // What a write may change of an aligned word of four bytes: the bits that it stores, and those that a written 1 clears.
-#[derive(Drop)]
+#[derive(Clone, Copy)]
 pub struct Bits {
     pub writable: u32,
     pub clearing: u32,

@@ -1,5 +1,7 @@
 // The examples of document 01 that are not marked as proved, and the power states of request 3 of document 02: the proved
 // functions are run, and what they give is held to the file stdout. What needs main memory is replayed from the host instead.
+#![tactic(auto)]
+
 use gmch::{Map, Place, State, Target};
 
 fn text(t: &[u8]) {
