@@ -1,0 +1,15 @@
+-- The bytes from i on have been read; what they make fits.
+use Prim.Native.Nat.{suc, ◌+◌, ◌-◌, ◌*◌, ◌^◌, ◌≤◌, ◌<◌}
+use mathlib.Core.Path.{◌≡◌, sym, ◌∙◌}
+use native.Mathlib.Nat.{add-zero, sub-zero, sub_self}
+use native.Mathlib.Omega.{arith}
+use borrow.Author.Rules.{rules}
+use Rattle.gmch.specs.Config.{config_read}
+use Rattle.config.proofs.Bytes.{read_step, grows, word_fits}
+use Rattle.config.proofs.access.config_read.Given as goal
+
+abbrev pub invariant-loop-i : goal.invariant-loop-i
+invariant-loop-i l = (l.i ≤ l.n) × (l.v ≡ config_read l.dev0 l.dev1 (l.x + l.i) (l.n - l.i)) × (l.v < 256 ^ (l.n - l.i))
+
+abbrev pub decreases-loop-i : goal.decreases-loop-i
+decreases-loop-i l = l.i

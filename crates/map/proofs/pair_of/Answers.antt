@@ -1,0 +1,7 @@
+use borrow.Author.Rules.{rules}
+use mathlib.Core.Path.{refl}
+use Rattle.gmch.specs.Map.{pair_of}
+use Rattle.map.proofs.pair_of.Goals as goal
+
+pub returns : goal.returns
+returns c = unfold pair_of in refl

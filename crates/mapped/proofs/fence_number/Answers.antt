@@ -1,0 +1,13 @@
+-- The offset is within the range.
+use mathlib.Core.Path.{refl}
+use borrow.Author.Rules.{rules}
+use native.Mathlib.Omega.{arith}
+use Rattle.gmch.proofs.Words.{within_from, within_to}
+use Rattle.gmch.specs.Mapped.{is_fence}
+use Rattle.mapped.proofs.fence_number.Goals as goal
+
+pub overflow_sub-result : goal.overflow_sub-result
+overflow_sub-result c = unfold is_fence in within_from _ _ _ c.requires
+
+pub returns : goal.returns
+returns c = unfold is_fence in (refl, omega (arith, within_to _ _ _ c.requires))

@@ -1,0 +1,6 @@
+use borrow.Author.Rules.{rules}
+use Rattle.gmch.specs.Mapped.{is_fence}
+use Rattle.mapped.proofs.is_fence.Goals as goal
+
+pub returns : goal.returns
+returns c = unfold is_fence in c.within.ensures

@@ -1,0 +1,14 @@
+-- By the tests of each branch.
+use borrow.Author.Rules.{rules}
+use Rattle.gmch.proofs.Choice.{flag, called}
+use Rattle.gmch.specs.Mapped.{table_written}
+use Rattle.mapped.proofs.table_written.Goals as goal
+
+pub entry_number-requires : goal.entry_number-requires
+entry_number-requires c = search flag
+
+pub returns-then-is_entry : goal.returns-then-is_entry
+returns-then-is_entry c = unfold table_written in rw (c.entry_number.ensures.0, c.stored.ensures) (search called)
+
+pub returns-else-is_entry : goal.returns-else-is_entry
+returns-else-is_entry c = unfold table_written in search called
