@@ -1,0 +1,10 @@
+use borrow.Author.Rules.{rules}
+use Rattle.gmch.specs.Ring.{executed}
+use Rattle.ring.proofs.Opcode.{interrupted_bit}
+use Rattle.ring.proofs.executed.Goals as goal
+
+pub returns : goal.returns
+unfolding executed
+returns c =
+    let s = c.requires in
+    rw (← s.0, ← c.advanced-head.ensures, ← interrupted_bit _ _ (rw s.0 at s.1))

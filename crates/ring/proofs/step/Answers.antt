@@ -1,0 +1,17 @@
+use borrow.Author.Rules.{rules}
+use mathlib.Core.Path.{ap, ◌∙◌}
+use Rattle.gmch.specs.Ring.{stepped}
+use Rattle.ring.proofs.Parts.{goes, at_word}
+use Rattle.ring.proofs.step.Goals as goal
+
+pub fetch-requires : goal.fetch-requires
+fetch-requires c = let s = c.requires in (s.0, s.1, at_word _ c.begin.ensures c.in-Fetch.is)
+
+pub returns-in-Idle : goal.returns-in-Idle
+returns-in-Idle c = goes _ _ c.begin.ensures c.in-Idle.is
+
+pub returns-in-Bad : goal.returns-in-Bad
+returns-in-Bad c = goes _ _ c.begin.ensures c.in-Bad.is
+
+pub returns-in-Fetch : goal.returns-in-Fetch
+returns-in-Fetch c = c.stepped.ensures ∙ ap (stepped _) c.fetch.ensures ∙ goes _ _ c.begin.ensures c.in-Fetch.is
