@@ -6,7 +6,7 @@ use mathlib.Core.Bool.{Bool, true, false}
 use native.Mathlib.Omega.{arith}
 use lib.ListN.{length}
 use Rattle.gmch.specs.Records.{fits_word}
-use Rattle.gmch.specs.Map.{Tom, Sized, Cached, map_from, map_of, Shadow, route_of}
+use Rattle.gmch.specs.Map.{Tom, Sized, Cached, map_of, Shadow, route_of}
 use Rattle.gmch.specs.Machine.{cache_size, cache_length}
 use Rattle.gmch.specs.Access.{target_in}
 use Rattle.gmch.specs.declared.Board.{Board}

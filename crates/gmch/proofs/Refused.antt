@@ -16,7 +16,7 @@ use Rattle.gmch.specs.declared.Reach.TheVariants.{At, Denied}
 use Rattle.gmch.specs.declared.Place.{Place}
 use Rattle.gmch.specs.declared.Place.TheVariants.{InMain, InCache, NoPlace}
 use Rattle.gmch.specs.declared.Target.{Target}
-use Rattle.gmch.specs.declared.Target.TheVariants.{Refused, Mapped, Entry}
+use Rattle.gmch.specs.declared.Target.TheVariants.{Refused, Mapped}
 use Rattle.gmch.specs.declared.Route.TheVariants.{Registers}
 use Rattle.gmch.proofs.Choice.{pick_elim}
 use Rattle.gmch.proofs.Fence.{denied}

@@ -12,7 +12,7 @@ use Rattle.gmch.specs.Records.{well_formed, is_management}
 use Rattle.gmch.specs.Smram.{usmm}
 use Rattle.gmch.specs.Config.{smram_of}
 use Rattle.gmch.specs.Machine.{Machine}
-use Rattle.gmch.specs.Map.{Tom, map_from, map_of, Shadow, shadow_in, usable, shadow_target, main_target, route_of, master_target, protected_at, protected_in}
+use Rattle.gmch.specs.Map.{Tom, map_from, map_of, Shadow, usable, shadow_target, main_target, route_of, master_target, protected_at}
 use Rattle.gmch.specs.Access.{resolved, target_in, location_of, target_of}
 use Rattle.gmch.specs.Isolation.{is_protected, lands}
 use Rattle.gmch.specs.declared.Board.{Board}
@@ -24,7 +24,7 @@ use Rattle.gmch.specs.declared.Route.{Route}
 use Rattle.gmch.specs.declared.Target.{Target}
 use Rattle.gmch.proofs.Choice.{pick_elim, pick_elim₂, clash}
 use Rattle.gmch.proofs.Protect.{segment_fits, free_high}
-use Rattle.shadow.specs.Unmoved.{steered, ends_protected, Unmoved, ProtectionUnmoved}
+use Rattle.shadow.specs.Unmoved.{steered, ends_protected, ProtectionUnmoved}
 
 -- ---- any two values of the registers, under one map
 

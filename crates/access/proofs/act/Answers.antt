@@ -70,9 +70,9 @@ returns-after-write c =
     let t = c.in-Mapped.is in
     let m = c.at_mapped-x.ensures in
     let passed : (s.a.write and (is_table_word s.t and barred s.m s.v)) ≡ false = rw t (elim c.if-write.branch [
-        then-write+then-is_entry+else-barred w ↦ simp (flag w.barred.ensures w.if-barred.false, choices)
-        | then-write+else-is_entry w ↦ simp (flag w.is_entry.ensures w.if-is_entry.false, choices)
-        | else-write w ↦ simp (w.if-write.false, choices)
+      | then-write+then-is_entry+else-barred w ↦ simp (flag w.barred.ensures w.if-barred.false, choices)
+      | then-write+else-is_entry w ↦ simp (flag w.is_entry.ensures w.if-is_entry.false, choices)
+      | else-write w ↦ simp (w.if-write.false, choices)
     ]) in
     rw (c.done-in-Mapped.ensures, settled_passed s.m s.a s.v s.t passed, c.store_effect-e.ensures, t)
     (λ p q. mapped_done _ _ _ _ _ _ _ _ _ m.0 m.1, effect_sound _ _ _)
@@ -124,8 +124,8 @@ returns-after-write-3 c =
     let t = c.in-Entry.is in
     let m = c.in_memory-x-in-Entry.ensures in
     let passed : (s.a.write and (is_table_word s.t and barred s.m s.v)) ≡ false = rw t (elim c.if-write-3.branch [
-        then-write-3+else-barred-2 w ↦ simp (flag w.barred-then-write-3.ensures w.if-barred-2.false, choices)
-        | else-write-3 w ↦ simp (w.if-write-3.false, choices)
+      | then-write-3+else-barred-2 w ↦ simp (flag w.barred-then-write-3.ensures w.if-barred-2.false, choices)
+      | else-write-3 w ↦ simp (w.if-write-3.false, choices)
     ]) in
     rw (c.done-in-Entry.ensures, settled_passed s.m s.a s.v s.t passed, t)
     (λ p q. entry_done _ _ _ _ _ _ _ _ _ _ m.0 (rw c.stored.ensures at m.1), tt)

@@ -1,4 +1,3 @@
-use borrow.Author.Rules.{rules}
 use mathlib.Core.Path.{refl}
 use Rattle.gmch.specs.Choice.{pick}
 use Rattle.access.proofs.at_mapped.Goals as goal

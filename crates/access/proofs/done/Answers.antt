@@ -1,4 +1,3 @@
-use borrow.Author.Rules.{rules}
 use Rattle.access.proofs.done.Goals as goal
 
 pub returns : goal.returns

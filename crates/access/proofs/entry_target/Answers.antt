@@ -1,4 +1,3 @@
-use borrow.Author.Rules.{rules}
 use mathlib.Core.Path.{sym, ap, ◌∙◌}
 use Rattle.gmch.specs.Access.{entry_target}
 use Rattle.access.proofs.entry_target.Goals as goal

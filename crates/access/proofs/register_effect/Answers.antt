@@ -1,4 +1,3 @@
-use borrow.Author.Rules.{rules}
 use Rattle.gmch.proofs.Choice.{tests}
 use Rattle.access.specs.Decide.{register_effect}
 use Rattle.access.proofs.register_effect.Goals as goal

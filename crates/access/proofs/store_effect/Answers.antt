@@ -1,4 +1,3 @@
-use borrow.Author.Rules.{rules}
 use Rattle.gmch.specs.Choice.{pick}
 use Rattle.access.specs.Decide.{store_effect}
 use Rattle.access.proofs.store_effect.Goals as goal

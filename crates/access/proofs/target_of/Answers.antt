@@ -1,7 +1,6 @@
-use borrow.Author.Rules.{rules}
 use mathlib.Core.Path.{◌∙◌, sym, ap}
 use mathlib.Core.Bool.{not}
-use borrow.Author.Tests.{le-leb, lt-leb, not-false}
+use borrow.Author.Tests.{le-leb, lt-leb}
 use Rattle.gmch.specs.Access.{target_in}
 use Rattle.gmch.proofs.Choice.{flag, pick_true, pick_false}
 use Rattle.access.proofs.Bounds.{route_ready}

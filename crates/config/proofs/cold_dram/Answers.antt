@@ -1,4 +1,3 @@
-use borrow.Author.Rules.{rules}
 use Rattle.gmch.proofs.Choice.{tests}
 use Rattle.gmch.specs.Machine.{has_cache}
 use Rattle.gmch.specs.Replay.{cold_dram}

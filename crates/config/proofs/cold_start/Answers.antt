@@ -1,4 +1,3 @@
-use borrow.Author.Rules.{rules}
 use Rattle.gmch.specs.Replay.{cold_regs, cold_start}
 use Rattle.config.proofs.cold_start.Goals as goal
 

@@ -1,4 +1,3 @@
-use borrow.Author.Rules.{rules}
 use Rattle.gmch.specs.Choice.{◌and◌}
 use Rattle.gmch.specs.Words.{within}
 use Rattle.gmch.proofs.Choice.{choices}

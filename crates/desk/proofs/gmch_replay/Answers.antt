@@ -1,8 +1,5 @@
-use borrow.Author.Rules.{rules}
-use mathlib.Core.Path.{refl, ap}
-use mathlib.Core.Bool.{not}
+use mathlib.Core.Path.{refl}
 use native.Mathlib.Omega.{arith}
-use borrow.Author.Tests.{not-true, not-false}
 use Rattle.gmch.specs.Replay.{cold_table}
 use Rattle.gmch.proofs.Choice.{flag}
 use Rattle.desk.proofs.Laws.{good, refused, replayed}

@@ -1,4 +1,3 @@
-use borrow.Author.Rules.{rules}
 use Rattle.gmch.specs.Choice.{◌and◌}
 use Rattle.gmch.specs.Call.{good_call}
 use Rattle.desk.proofs.good_call.Goals as goal

@@ -1,4 +1,3 @@
-use borrow.Author.Rules.{rules}
 use Rattle.gmch.specs.Table.{entered}
 use Rattle.graphics.proofs.entered.Goals as goal
 

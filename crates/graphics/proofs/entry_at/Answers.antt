@@ -1,4 +1,3 @@
-use borrow.Author.Rules.{rules}
 use mathlib.Core.Path.{sym, ◌∙◌}
 use Rattle.gmch.specs.Table.{entry_at}
 use Rattle.gmch.proofs.Choice.{tests, pick_false}

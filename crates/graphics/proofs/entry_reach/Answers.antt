@@ -1,7 +1,6 @@
-use borrow.Author.Rules.{rules}
 use mathlib.Core.Path.{sym, ◌∙◌}
 use borrow.Author.Tests.{ne_eqb, eq-eqb}
-use Rattle.gmch.proofs.Choice.{tests, flag, pick_true, pick_false}
+use Rattle.gmch.proofs.Choice.{flag, pick_true, pick_false}
 use Rattle.graphics.proofs.entry_reach.Goals as goal
 
 pub returns-then-code-ne0 : goal.returns-then-code-ne0

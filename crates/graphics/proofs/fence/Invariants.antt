@@ -1,15 +1,8 @@
 -- The fences from i on give what all of them give.
-use Prim.Native.Nat.{ℕ, ◌+◌, ◌-◌, ◌≤◌, ◌<◌}
-use mathlib.Core.Path.{◌≡◌, refl, sym, ◌∙◌}
-use mathlib.Core.List.{List}
-use borrow.Author.Rules.{rules}
-use native.Mathlib.Omega.{arith}
-use native.Mathlib.Numerals.{add-one}
-use lib.ListN.{length, drop, get_or, drop_of_length-le}
-use lib.Seq.{drop-cons}
-use Rattle.gmch.specs.Choice.{pick}
-use Rattle.gmch.specs.Fence.{fence_matches, fence_reach, fenced}
-use Rattle.gmch.proofs.Choice.{pick_true, pick_false, flag}
+use Prim.Native.Nat.{◌-◌, ◌≤◌}
+use mathlib.Core.Path.{◌≡◌}
+use lib.ListN.{length, drop}
+use Rattle.gmch.specs.Fence.{fenced}
 use Rattle.graphics.proofs.fence.Given as goal
 
 abbrev pub invariant-loop-i : goal.invariant-loop-i

@@ -1,4 +1,3 @@
-use borrow.Author.Rules.{rules}
 use mathlib.Core.Path.{sym, ◌∙◌}
 use lib.Bits.{and_mask}
 use Rattle.gmch.specs.Fence.{fence_matches}

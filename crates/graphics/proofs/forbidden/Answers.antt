@@ -1,4 +1,3 @@
-use borrow.Author.Rules.{rules}
 use borrow.Author.Tests.{ne_eqb, eq-eqb}
 use Prim.Native.Nat.{◌%◌}
 use native.Mathlib.Omega.{arith}

@@ -1,5 +1,4 @@
 use Prim.Native.Nat.{◌-◌, ◌/◌, ◌%◌}
-use borrow.Author.Rules.{rules}
 use native.Mathlib.Omega.{arith}
 use mathlib.Core.Path.{◌≡◌}
 use lib.Bits.{bit_and, and_mask}
@@ -28,5 +27,5 @@ unfolding ill_formed
 returns c =
     let f = c.args.f in
     let rest : bit_and c.fence_start.result (c.fence_size.result - 1) ≡ fence_start f % fence_size c.size_code-code.result =
-        rw (c.fence_size.ensures, c.fence_start.ensures) (below_size _ _ (omega arith)) in
+    rw (c.fence_size.ensures, c.fence_start.ensures) (below_size _ _ (omega arith)) in
     search (tests, rest, ← and_mask (f / 4096) 1, ← c.pitch_code.ensures, ← c.size_code-code.ensures)

@@ -1,11 +1,8 @@
 -- By the home; a word that is reached in main memory lies inside it.
-use borrow.Author.Rules.{rules}
 use borrow.Author.Tests.{le-leb}
-use mathlib.Core.Path.{◌≡◌, sym, ap, ◌∙◌}
-use mathlib.Core.Bool.{true}
+use mathlib.Core.Path.{sym, ap, ◌∙◌}
 use native.Mathlib.Omega.{arith}
-use Rattle.gmch.specs.Table.{in_memory, word_reach, look_in}
-use Rattle.gmch.specs.declared.Reach.TheVariants.{At}
+use Rattle.gmch.specs.Table.{look_in}
 use Rattle.gmch.specs.declared.Look.TheVariants.{Word}
 use Rattle.gmch.proofs.Choice.{tests}
 use Rattle.gmch.proofs.Table.{word_at, look_at, look_denied}

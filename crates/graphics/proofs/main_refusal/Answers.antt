@@ -1,10 +1,4 @@
-use borrow.Author.Rules.{rules}
-use mathlib.Core.Path.{◌≡◌}
-use mathlib.Core.Bool.{true, false}
-use lib.Dec.{leb}
 use borrow.Author.Tests.{le-leb, lt-leb}
-use Rattle.gmch.specs.Choice.{◌or◌}
-use Rattle.gmch.specs.Map.{protected_at}
 use Rattle.gmch.proofs.Choice.{choices, flag, or_false, or_no_left, or_no_right}
 use Rattle.graphics.specs.Refusal.{main_refusal}
 use Rattle.graphics.proofs.main_refusal.Goals as goal

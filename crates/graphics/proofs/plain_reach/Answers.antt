@@ -1,4 +1,3 @@
-use borrow.Author.Rules.{rules}
 use borrow.Author.Tests.{ne_eqb, eq-eqb}
 use mathlib.Core.Path.{◌≡◌, sym, ◌∙◌}
 use Rattle.gmch.specs.Table.{entry_reach}
@@ -21,8 +20,8 @@ pub returns-then-code-ne0 : goal.returns-then-code-ne0
 returns-then-code-ne0 c =
     let s = c.args in
     let by_page : placed s.entry c.main_refusal-code.result s.o ≡ entry_reach s.m s.entry s.o =
-        rw (c.main_refusal-code.ensures, c.page_of-page.ensures)
-        (main_placed s.m s.entry s.o (ne_eqb _ _ c.if-entry-eq0.false) (flag c.foreign.ensures c.if-foreign.false)) in
+    rw (c.main_refusal-code.ensures, c.page_of-page.ensures)
+    (main_placed s.m s.entry s.o (ne_eqb _ _ c.if-entry-eq0.false) (flag c.foreign.ensures c.if-foreign.false)) in
     sym (pick_false _ _ (ne_eqb _ _ c.if-code-ne0.true)) ∙ by_page
 
 pub returns : goal.returns
@@ -30,5 +29,5 @@ returns c =
     let s = c.args in
     let f = flag c.foreign.ensures c.if-foreign.false in
     let by_page : placed s.entry c.main_refusal-code.result s.o ≡ entry_reach s.m s.entry s.o =
-        rw (c.main_refusal-code.ensures, c.page_of-page.ensures) (main_placed s.m s.entry s.o (ne_eqb _ _ c.if-entry-eq0.false) f) in
+    rw (c.main_refusal-code.ensures, c.page_of-page.ensures) (main_placed s.m s.entry s.o (ne_eqb _ _ c.if-entry-eq0.false) f) in
     rw c.page_of-page.ensures (sym (pick_true _ _ (eq-eqb _ _ c.if-code-ne0.false) ∙ pick_false _ _ f) ∙ by_page)

@@ -1,5 +1,4 @@
 -- What the fences leave is an offset of the window again, so it has an entry.
-use borrow.Author.Rules.{rules}
 use native.Mathlib.Omega.{arith}
 use mathlib.Core.Path.{sym, ◌∙◌}
 use Rattle.gmch.specs.Table.{translated}

@@ -1,6 +1,5 @@
 -- The sum is the definition's; where the table starts below TOM it has 32 bits.
-use Prim.Native.Nat.{◌+◌, ◌*◌, ◌/◌, ◌≤◌, ℕ, ◌-◌, ◌^◌, ◌<◌}
-use borrow.Author.Rules.{rules}
+use Prim.Native.Nat.{◌+◌, ◌*◌, ◌/◌, ◌≤◌, ℕ, ◌^◌, ◌<◌}
 use borrow.Author.Tests.{le-leb, lt-leb}
 use native.Mathlib.Omega.{arith}
 use mathlib.Core.Path.{◌≡◌}

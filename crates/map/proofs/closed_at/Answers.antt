@@ -3,7 +3,6 @@ use mathlib.Core.Path.{◌≡◌, refl, ◌∙◌}
 use mathlib.Core.Bool.{Bool, true, false, ◌&&◌, ◌||◌}
 use native.Mathlib.Omega.{arith}
 use lib.Dec.{leb, ltb}
-use borrow.Author.Rules.{rules}
 use borrow.Author.Tests.{leb-true, leb-false, ltb-false}
 use Rattle.gmch.specs.Choice.{◌and◌, ◌or◌}
 use Rattle.gmch.specs.Words.{within}
@@ -30,6 +29,6 @@ unfolding protected_at ◌and◌ ◌or◌
 returns c =
     let s = c.args in
     let tested : (leb c.tseg_start-tseg.result s.a || (c.low_protected.result && c.within.result))
-        ≡ (leb (s.tom - tseg_size s.smram) s.a or (low_protected s.smram and within 0xA0000 0x20000 s.a)) =
-        cc in
+    ≡ (leb (s.tom - tseg_size s.smram) s.a or (low_protected s.smram and within 0xA0000 0x20000 s.a)) =
+    cc in
     tested ∙ goes_on _ (s.tom - tseg_size s.smram) s.tom s.a (omega arith)

@@ -1,4 +1,3 @@
-use borrow.Author.Rules.{rules}
 use Rattle.gmch.specs.Choice.{◌and◌}
 use Rattle.map.proofs.graphics_hit.Goals as goal
 

@@ -1,4 +1,3 @@
-use borrow.Author.Rules.{rules}
 use Rattle.gmch.specs.Choice.{◌and◌}
 use Rattle.gmch.specs.Map.{graphics_on}
 use Rattle.map.proofs.graphics_on.Goals as goal

@@ -1,4 +1,3 @@
-use borrow.Author.Rules.{rules}
 use Rattle.gmch.specs.Choice.{◌and◌}
 use Rattle.gmch.specs.Smram.{hseg_acts}
 use Rattle.map.proofs.hseg_acts.Goals as goal

@@ -1,4 +1,3 @@
-use borrow.Author.Rules.{rules}
 use Rattle.gmch.specs.Choice.{◌and◌}
 use Rattle.gmch.specs.Map.{hseg_hit}
 use Rattle.map.proofs.hseg_hit.Goals as goal

@@ -1,5 +1,4 @@
 use Rattle.gmch.proofs.Choice.{tests}
-use borrow.Author.Rules.{rules}
 use Rattle.gmch.specs.Map.{hseg_target}
 use Rattle.map.proofs.hseg_target.Goals as goal
 

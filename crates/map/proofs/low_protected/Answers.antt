@@ -1,4 +1,3 @@
-use borrow.Author.Rules.{rules}
 use Rattle.gmch.specs.Choice.{◌or◌}
 use Rattle.gmch.specs.Map.{low_protected}
 use Rattle.map.proofs.low_protected.Goals as goal

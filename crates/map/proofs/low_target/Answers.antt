@@ -1,5 +1,4 @@
 -- By the tests of each branch, on what the calls gave.
-use borrow.Author.Rules.{rules}
 use Rattle.gmch.proofs.Choice.{called}
 use Rattle.gmch.specs.Map.{low_target}
 use Rattle.map.proofs.low_target.Goals as goal

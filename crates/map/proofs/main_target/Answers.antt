@@ -1,5 +1,4 @@
 -- By the tests of each branch, on what the calls gave.
-use borrow.Author.Rules.{rules}
 use borrow.Author.Tests.{not-true, not-false}
 use Rattle.gmch.proofs.Choice.{called}
 use Rattle.gmch.specs.Map.{main_target}

@@ -1,4 +1,3 @@
-use borrow.Author.Rules.{rules}
 use Rattle.gmch.specs.Map.{map_from}
 use Rattle.map.proofs.map_from.Goals as goal
 

@@ -1,5 +1,4 @@
 -- By the tests of each branch, on what the calls gave.
-use borrow.Author.Rules.{rules}
 use Rattle.gmch.proofs.Choice.{tests}
 use Rattle.gmch.specs.Map.{master_target}
 use Rattle.map.proofs.master_target.Goals as goal

@@ -1,4 +1,3 @@
-use borrow.Author.Rules.{rules}
 use mathlib.Core.Path.{refl}
 use Rattle.gmch.specs.Map.{pair_of}
 use Rattle.map.proofs.pair_of.Goals as goal

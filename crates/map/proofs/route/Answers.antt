@@ -1,5 +1,4 @@
 -- Each return hands the facts of its branches to the law of its rule.
-use borrow.Author.Rules.{rules}
 use native.Mathlib.Omega.{arith}
 use mathlib.Core.Path.{◌∙◌, ap}
 use Rattle.gmch.specs.declared.Route.TheVariants.{To}

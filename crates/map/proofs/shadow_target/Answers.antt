@@ -1,5 +1,4 @@
 -- By the tests of each branch, on the pair that the call gave.
-use borrow.Author.Rules.{rules}
 use Rattle.gmch.proofs.Choice.{tests}
 use Rattle.gmch.specs.Map.{shadow_target}
 use Rattle.map.proofs.shadow_target.Goals as goal

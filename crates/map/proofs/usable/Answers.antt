@@ -1,4 +1,3 @@
-use borrow.Author.Rules.{rules}
 use Rattle.map.proofs.usable.Goals as goal
 
 pub returns : goal.returns

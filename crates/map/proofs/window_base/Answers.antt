@@ -1,5 +1,4 @@
 use Rattle.gmch.proofs.Choice.{tests}
-use borrow.Author.Rules.{rules}
 use Rattle.gmch.specs.Map.{window_base}
 use Rattle.map.proofs.window_base.Goals as goal
 

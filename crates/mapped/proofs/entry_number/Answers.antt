@@ -1,6 +1,5 @@
 -- The offset is within the range.
 use mathlib.Core.Path.{refl}
-use borrow.Author.Rules.{rules}
 use native.Mathlib.Omega.{arith}
 use Rattle.gmch.proofs.Words.{within_from, within_to}
 use Rattle.gmch.specs.Mapped.{is_entry}

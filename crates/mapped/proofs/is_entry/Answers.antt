@@ -1,4 +1,3 @@
-use borrow.Author.Rules.{rules}
 use Rattle.gmch.specs.Mapped.{is_entry}
 use Rattle.mapped.proofs.is_entry.Goals as goal
 

@@ -1,4 +1,3 @@
-use borrow.Author.Rules.{rules}
 use Rattle.gmch.specs.Mapped.{is_fence}
 use Rattle.mapped.proofs.is_fence.Goals as goal
 

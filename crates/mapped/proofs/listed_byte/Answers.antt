@@ -1,4 +1,3 @@
-use borrow.Author.Rules.{rules}
 use Rattle.gmch.specs.Choice.{◌and◌}
 use Rattle.gmch.specs.Machine.{has_cache}
 use Rattle.gmch.specs.Mapped.{listed_byte}

@@ -1,4 +1,3 @@
-use borrow.Author.Rules.{rules}
 use Rattle.gmch.specs.Choice.{◌and◌}
 use Rattle.gmch.specs.Mapped.{listed_half}
 use Rattle.mapped.proofs.listed_half.Goals as goal

@@ -1,4 +1,3 @@
-use borrow.Author.Rules.{rules}
 use Rattle.gmch.specs.Choice.{◌or◌}
 use Rattle.gmch.specs.Mapped.{listed_word, is_entry}
 use Rattle.mapped.proofs.listed_word.Goals as goal

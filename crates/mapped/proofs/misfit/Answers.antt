@@ -1,4 +1,3 @@
-use borrow.Author.Rules.{rules}
 use Rattle.gmch.specs.Choice.{pick, ◌and◌}
 use Rattle.gmch.proofs.Choice.{called}
 use Rattle.gmch.specs.Mapped.{misfit}

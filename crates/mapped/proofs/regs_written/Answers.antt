@@ -1,5 +1,4 @@
 -- Each arm says what `o` is, and the definition computes; the last says what it is not.
-use borrow.Author.Rules.{rules}
 use Rattle.gmch.proofs.Choice.{tests}
 use Rattle.gmch.specs.Choice.{pick}
 use Rattle.gmch.specs.Mapped.{regs_written}

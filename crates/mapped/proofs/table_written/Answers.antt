@@ -1,5 +1,4 @@
 -- By the tests of each branch.
-use borrow.Author.Rules.{rules}
 use Rattle.gmch.proofs.Choice.{flag, called}
 use Rattle.gmch.specs.Mapped.{table_written}
 use Rattle.mapped.proofs.table_written.Goals as goal

@@ -1,5 +1,4 @@
 -- By the tests of each branch.
-use borrow.Author.Rules.{rules}
 use Rattle.gmch.proofs.Choice.{flag, called}
 use Rattle.gmch.specs.Mapped.{mapped_written}
 use Rattle.mapped.proofs.written.Goals as goal

@@ -1,5 +1,4 @@
 use mathlib.Core.Path.{refl, sym}
-use borrow.Author.Rules.{rules}
 use native.Mathlib.Omega.{arith}
 use Rattle.gmch.specs.Choice.{◌and◌, ◌or◌}
 use Rattle.gmch.specs.Records.{fits_word}

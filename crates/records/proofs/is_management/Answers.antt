@@ -1,4 +1,3 @@
-use borrow.Author.Rules.{rules}
 use Rattle.gmch.specs.Choice.{◌and◌, ◌or◌}
 use Rattle.gmch.specs.Records.{is_management}
 use Rattle.records.proofs.is_management.Goals as goal

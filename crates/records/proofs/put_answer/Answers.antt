@@ -1,7 +1,5 @@
-use borrow.Author.Rules.{rules}
 use native.Mathlib.Omega.{arith}
 use lib.ListN.{length-set}
-use mathlib.Core.Path.{◌∙◌}
 use Rattle.records.proofs.Bytes.{answer_sets}
 use Rattle.records.proofs.put_answer.Goals as goal
 

@@ -1,4 +1,3 @@
-use borrow.Author.Rules.{rules}
 use mathlib.Core.Path.{◌∙◌, sym}
 use Rattle.records.proofs.Bytes.{record_part}
 use Rattle.records.proofs.record_at.Goals as goal

@@ -1,4 +1,3 @@
-use borrow.Author.Rules.{rules}
 use Rattle.access.specs.Decide.{changed}
 use Rattle.replay.proofs.apply.Goals as goal
 

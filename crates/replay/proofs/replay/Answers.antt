@@ -1,15 +1,9 @@
 -- What is left of the replay gives the whole: one law takes a turn of the loop, one ends it.
-use Prim.Native.Nat.{◌-◌, ◌%◌}
-use mathlib.Core.Path.{◌≡◌, refl, ◌∙◌}
-use mathlib.Core.Logic.{⊎_elim}
+use mathlib.Core.Path.{refl, ◌∙◌}
 use native.Mathlib.Omega.{arith}
-use borrow.Author.Rules.{rules}
-use lib.ListN.{length}
-use Rattle.gmch.specs.Machine.{cache_length, machine}
-use Rattle.gmch.specs.Map.{map_of}
 use Rattle.config.proofs.Stored.{stored_0, stored_1}
 use Rattle.access.proofs.Bounds.{ready}
-use Rattle.replay.proofs.Loop.{Next, next, keep_is, ring_is, select_is, configure_is, rare_is, rest_at, turn, finished}
+use Rattle.replay.proofs.Loop.{Next, next, keep_is, ring_is, select_is, configure_is, rare_is, turn, finished}
 use Rattle.replay.proofs.replay.Goals as goal
 use Rattle.replay.proofs.replay.Goals.{in-Keep, in-Ring, in-Select, in-Configure, then-n-lt256, else-n-lt256, in-Rarely}
 
@@ -35,19 +29,19 @@ loop-at-preserved c =
     let m = c.match-e in
     let p = c.put_answer in
     let x : Next _ l.s d.result.effect m.s m.m = elim m.branch [
-        in-Keep w ↦ next _ _ _ w.s-is w.m-is (keep_is _ _ w.in-Keep.is) h.5
-        | in-Ring w ↦ next _ _ _ w.s-is w.m-is (ring_is _ _ _ _ w.in-Ring.is) h.5
-        | in-Select w ↦ next _ _ _ w.s-is w.m-is (select_is _ _ _ w.in-Select.is) h.5
-        | in-Configure w ↦
-            let e = w.in-Configure.is in
-            let u = rw e at d.ensures.1 in
-            next _ _ _ w.s-is w.m-is
-            (elim w.if-n-lt256.branch [
-                then-n-lt256 v ↦ rw v.s-is (stored_0 _ _ _ _ u.1 _ w.bits_of-bits.ensures _ _ _ _ w.effective-data.ensures w.is_touched-wrote2c.ensures w.is_touched-wrote2e.ensures v.if-n-lt256.true v.write.ensures)
-                | else-n-lt256 v ↦ rw v.s-is (stored_1 _ _ _ _ u.1 _ w.bits_of-bits.ensures _ _ _ _ w.effective-data.ensures w.is_touched-wrote2c.ensures w.is_touched-wrote2e.ensures v.if-n-lt256.false u.0 v.write-else-n-lt256.ensures)
-            ] ∙ configure_is _ _ _ _ _ e)
-            w.map_of-m-in-Configure.ensures
-        | in-Rarely w ↦ next _ _ _ w.s-is w.m-is (w.apply-s.ensures ∙ rare_is _ _ _ w.in-Rarely.is) w.map_of-m-in-Rarely.ensures
+      | in-Keep w ↦ next _ _ _ w.s-is w.m-is (keep_is _ _ w.in-Keep.is) h.5
+      | in-Ring w ↦ next _ _ _ w.s-is w.m-is (ring_is _ _ _ _ w.in-Ring.is) h.5
+      | in-Select w ↦ next _ _ _ w.s-is w.m-is (select_is _ _ _ w.in-Select.is) h.5
+      | in-Configure w ↦
+          let e = w.in-Configure.is in
+          let u = rw e at d.ensures.1 in
+          next _ _ _ w.s-is w.m-is
+          (elim w.if-n-lt256.branch [
+            | then-n-lt256 v ↦ rw v.s-is (stored_0 _ _ _ _ u.1 _ w.bits_of-bits.ensures _ _ _ _ w.effective-data.ensures w.is_touched-wrote2c.ensures w.is_touched-wrote2e.ensures v.if-n-lt256.true v.write.ensures)
+            | else-n-lt256 v ↦ rw v.s-is (stored_1 _ _ _ _ u.1 _ w.bits_of-bits.ensures _ _ _ _ w.effective-data.ensures w.is_touched-wrote2c.ensures w.is_touched-wrote2e.ensures v.if-n-lt256.false u.0 v.write-else-n-lt256.ensures)
+          ] ∙ configure_is _ _ _ _ _ e)
+          w.map_of-m-in-Configure.ensures
+      | in-Rarely w ↦ next _ _ _ w.s-is w.m-is (w.apply-s.ensures ∙ rare_is _ _ _ w.in-Rarely.is) w.map_of-m-in-Rarely.ensures
     ] in (
       omega arith,
       h.1,

@@ -1,15 +1,10 @@
 -- What is left of the replay gives the whole: one law takes a turn of the loop, one ends it.
 use Prim.Native.Nat.{◌-◌, ◌%◌}
-use mathlib.Core.Path.{◌≡◌, refl, ◌∙◌}
-use mathlib.Core.Logic.{⊎_elim}
-use native.Mathlib.Omega.{arith}
-use borrow.Author.Rules.{rules}
+use mathlib.Core.Path.{◌≡◌}
 use lib.ListN.{length}
 use Rattle.gmch.specs.Machine.{cache_length, machine}
 use Rattle.gmch.specs.Map.{map_of}
-use Rattle.config.proofs.Stored.{stored_0, stored_1}
-use Rattle.access.proofs.Bounds.{ready}
-use Rattle.replay.proofs.Loop.{Next, next, keep_is, ring_is, select_is, configure_is, rare_is, rest_at, turn, finished}
+use Rattle.replay.proofs.Loop.{rest_at}
 use Rattle.replay.proofs.replay.Given as goal
 
 abbrev pub invariant-loop-at : goal.invariant-loop-at

@@ -1,7 +1,6 @@
-use Prim.Native.Nat.{◌≤◌, ◌-◌}
 use mathlib.Core.Path.{◌≡◌, refl}
-use mathlib.Core.List.{◌++◌, append-nil}
-use lib.ListN.{length, drop, replicate, length-set, drop_of_length-le}
+use mathlib.Core.List.{append-nil}
+use lib.ListN.{length-set, drop_of_length-le}
 use borrow.Author.Fill.{fill_none, fill_more}
 use native.Mathlib.Omega.{arith}
 use Rattle.gmch.specs.Replay.{cold_table}

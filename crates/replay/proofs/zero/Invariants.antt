@@ -1,10 +1,7 @@
 use Prim.Native.Nat.{◌≤◌, ◌-◌}
-use mathlib.Core.Path.{◌≡◌, refl}
-use mathlib.Core.List.{◌++◌, append-nil}
-use lib.ListN.{length, drop, replicate, length-set, drop_of_length-le}
-use borrow.Author.Fill.{fill_none, fill_more}
-use native.Mathlib.Omega.{arith}
-use Rattle.gmch.specs.Replay.{cold_table}
+use mathlib.Core.Path.{◌≡◌}
+use mathlib.Core.List.{◌++◌}
+use lib.ListN.{length, drop, replicate}
 use Rattle.replay.proofs.zero.Given as goal
 
 abbrev pub invariant-loop-i : goal.invariant-loop-i

@@ -1,11 +1,6 @@
 -- The invariant: what is left of the run, after the steps counted so far, is the whole run.
-use borrow.Author.Rules.{rules}
-use Prim.Native.Nat.{◌≤◌, ◌-◌}
-use mathlib.Core.Path.{◌≡◌, sym, ◌∙◌}
+use mathlib.Core.Path.{sym, ◌∙◌}
 use native.Mathlib.Omega.{arith}
-use Rattle.gmch.specs.Machine.{lent}
-use Rattle.gmch.specs.Table.{fetch_in}
-use Rattle.gmch.specs.Ring.{run}
 use Rattle.gmch.proofs.Ring.{run_ended, run_failed, run_done}
 use Rattle.ring.proofs.Parts.{all_left, one_less, none_left, whole}
 use Rattle.ring.proofs.cache_run.Goals as goal

@@ -1,4 +1,3 @@
-use borrow.Author.Rules.{rules}
 use Rattle.gmch.specs.Ring.{executed}
 use Rattle.ring.proofs.Opcode.{interrupted_bit}
 use Rattle.ring.proofs.executed.Goals as goal

@@ -1,11 +1,9 @@
-use borrow.Author.Rules.{rules}
 use borrow.Author.Tests.{lt-leb}
 use mathlib.Core.Path.{◌≡◌, sym, ap, ◌∙◌}
 use mathlib.Core.Bool.{false}
 use native.Mathlib.Omega.{arith}
 use lib.Dec.{leb}
-use Rattle.gmch.specs.Table.{look_in, translate, fetch}
-use Rattle.gmch.specs.declared.Place.TheVariants.{InMain}
+use Rattle.gmch.specs.Table.{fetch}
 use Rattle.gmch.specs.declared.Look.TheVariants.{Word}
 use Rattle.gmch.proofs.Choice.{tests}
 use Rattle.gmch.proofs.Table.{translate_at, reached_fits, fetch_main, fetch_none}

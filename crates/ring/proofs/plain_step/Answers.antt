@@ -1,4 +1,3 @@
-use borrow.Author.Rules.{rules}
 use mathlib.Core.Path.{ap, ◌∙◌}
 use Rattle.gmch.specs.Ring.{stepped}
 use Rattle.ring.proofs.Parts.{goes, at_word}

@@ -1,4 +1,3 @@
-use borrow.Author.Rules.{rules}
 use Rattle.gmch.proofs.Steps.{count_words}
 use Rattle.ring.proofs.run.Goals as goal
 

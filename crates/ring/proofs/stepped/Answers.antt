@@ -1,4 +1,3 @@
-use borrow.Author.Rules.{rules}
 use Rattle.gmch.specs.Ring.{stepped}
 use Rattle.gmch.proofs.Choice.{tests}
 use Rattle.ring.proofs.stepped.Goals as goal

@@ -1,4 +1,3 @@
-use borrow.Author.Rules.{rules}
 use Rattle.gmch.specs.Rows.{cold_bytes}
 use Rattle.rows.proofs.cold_bytes.Goals as goal
 

@@ -1,10 +1,6 @@
 -- The rows that are left, filled in, give what all of them give.
-use Prim.Native.Nat.{◌-◌}
 use mathlib.Core.Path.{◌≡◌, refl, sym, ◌∙◌}
-use mathlib.Core.Logic.{⊎_elim}
-use mathlib.Core.List.{foldl}
 use native.Mathlib.Omega.{arith}
-use lib.ListN.{length, drop, replicate}
 use borrow.Author.Tests.{eq-eqb, ne_eqb}
 use Rattle.gmch.specs.Rows.{rows}
 use Rattle.gmch.proofs.Choice.{pick_true, pick_false}
@@ -47,10 +43,10 @@ loop-i-preserved c =
     let l = c.loop-i in
     let r = row_at l.i in
     let e : c.if-r-device.a ≡ filled_by d l.a r =
-        elim c.if-r-device.branch [
-            then-r-device w ↦ rw (w.a-is, w.store.ensures) (sym (pick_true _ _ (eq-eqb _ _ w.if-r-device.true)))
-            | else-r-device w ↦ w.a-is ∙ sym (pick_false _ _ (ne_eqb _ _ w.if-r-device.false))
-        ] in
+    elim c.if-r-device.branch [
+      | then-r-device w ↦ rw (w.a-is, w.store.ensures) (sym (pick_true _ _ (eq-eqb _ _ w.if-r-device.true)))
+      | else-r-device w ↦ w.a-is ∙ sym (pick_false _ _ (ne_eqb _ _ w.if-r-device.false))
+    ] in
     rw e (length_filled d r l.a ∙ l.invariant.0, fold_more (filled_by d) l.a _ rows l.i l.invariant.1 zero_row (omega arith))
 
 pub returns : goal.returns

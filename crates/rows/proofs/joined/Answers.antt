@@ -1,4 +1,3 @@
-use borrow.Author.Rules.{rules}
 use Rattle.gmch.proofs.Choice.{tests}
 use Rattle.rows.specs.Word.{joined}
 use Rattle.rows.proofs.joined.Goals as goal

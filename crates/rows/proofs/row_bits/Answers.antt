@@ -1,12 +1,8 @@
 -- The rows that are left add what all of them give.
-use Prim.Native.Nat.{ℕ, ◌-◌}
-use mathlib.Core.Path.{◌≡◌, refl}
-use mathlib.Core.List.{foldl}
+use mathlib.Core.Path.{refl}
 use native.Mathlib.Omega.{arith}
-use lib.ListN.{drop}
 use Rattle.gmch.specs.Rows.{rows}
-use Rattle.gmch.specs.declared.Row.{Row}
-use Rattle.rows.specs.Word.{joined_by, row_bits}
+use Rattle.rows.specs.Word.{row_bits}
 use Rattle.rows.proofs.Fill.{zero_row}
 use Rattle.rows.proofs.Fold.{stores, clears, fold_more, fold_all}
 use Rattle.rows.proofs.row_bits.Goals as goal

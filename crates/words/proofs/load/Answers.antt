@@ -1,5 +1,4 @@
 -- The width is known at each return, and `load_le` computes there to the sum of the bytes.
-use borrow.Author.Rules.{rules}
 use native.Mathlib.Omega.{arith}
 use native.Mathlib.Nat.{add-zero}
 use mathlib.Core.Path.{◌≡◌}

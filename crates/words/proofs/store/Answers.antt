@@ -1,5 +1,4 @@
 -- The width is known at each return, and `store_le` computes there to the stores.
-use borrow.Author.Rules.{rules}
 use native.Mathlib.Omega.{arith}
 use native.Mathlib.Nat.{add-zero, div-one}
 use mathlib.Core.Path.{◌≡◌}

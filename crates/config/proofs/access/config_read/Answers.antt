@@ -1,5 +1,5 @@
 -- The bytes from i on have been read; what they make fits.
-use Prim.Native.Nat.{suc, ◌+◌, ◌-◌, ◌*◌, ◌^◌, ◌≤◌, ◌<◌}
+use Prim.Native.Nat.{suc, ◌-◌}
 use mathlib.Core.Path.{◌≡◌, sym, ◌∙◌}
 use native.Mathlib.Nat.{add-zero, sub-zero, sub_self}
 use native.Mathlib.Omega.{arith}

@@ -1,11 +1,7 @@
 -- The bytes from i on have been read; what they make fits.
-use Prim.Native.Nat.{suc, ◌+◌, ◌-◌, ◌*◌, ◌^◌, ◌≤◌, ◌<◌}
-use mathlib.Core.Path.{◌≡◌, sym, ◌∙◌}
-use native.Mathlib.Nat.{add-zero, sub-zero, sub_self}
-use native.Mathlib.Omega.{arith}
-use borrow.Author.Rules.{rules}
+use Prim.Native.Nat.{◌+◌, ◌-◌, ◌^◌, ◌≤◌, ◌<◌}
+use mathlib.Core.Path.{◌≡◌}
 use Rattle.gmch.specs.Config.{config_read}
-use Rattle.config.proofs.Bytes.{read_step, grows, word_fits}
 use Rattle.config.proofs.access.config_read.Given as goal
 
 abbrev pub invariant-loop-i : goal.invariant-loop-i

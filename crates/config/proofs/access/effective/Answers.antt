@@ -1,4 +1,3 @@
-use borrow.Author.Rules.{rules}
 use Rattle.gmch.proofs.Choice.{tests}
 use Rattle.gmch.specs.Choice.{◌or◌}
 use Rattle.gmch.specs.Config.{unsupported, effective}

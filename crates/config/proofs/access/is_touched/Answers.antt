@@ -1,5 +1,4 @@
 use mathlib.Core.Path.{refl}
-use borrow.Author.Rules.{rules}
 use Rattle.gmch.specs.Choice.{◌and◌}
 use Rattle.gmch.specs.Config.{touches}
 use Rattle.config.proofs.access.is_touched.Goals as goal

@@ -1,4 +1,3 @@
-use borrow.Author.Rules.{rules}
 use Rattle.gmch.proofs.Choice.{tests}
 use Rattle.gmch.specs.Config.{merge}
 use Rattle.config.specs.Word.{new_in}

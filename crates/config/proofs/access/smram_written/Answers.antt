@@ -1,4 +1,3 @@
-use borrow.Author.Rules.{rules}
 use native.Mathlib.Nat.{add-zero}
 use Rattle.gmch.proofs.Choice.{tests}
 use Rattle.gmch.specs.Smram.{smram_written}

@@ -1,11 +1,7 @@
 -- What is left to write gives the whole.
 use Prim.Native.Nat.{◌+◌, ◌-◌, ◌%◌}
-use mathlib.Core.Path.{◌≡◌, ◌∙◌}
-use native.Mathlib.Nat.{add-zero, sub-zero}
-use native.Mathlib.Omega.{arith}
-use borrow.Author.Rules.{rules}
+use mathlib.Core.Path.{◌≡◌}
 use Rattle.config.specs.Word.{written_in}
-use Rattle.config.proofs.Bytes.{write_step}
 use Rattle.config.proofs.access.write.Given as goal
 
 abbrev pub invariant-loop-i : goal.invariant-loop-i
