@@ -9,7 +9,7 @@ use std::process::Command;
 use std::time::{Duration, SystemTime};
 use std::{env, fs, io};
 
-/// What one crate of the proved model is made of.
+/// What one crate of the proved model is made of. What `rt` leaves in its folder `out` is none of it.
 const PARTS: [&str; 3] = ["src", "specs", "proofs"];
 
 fn main() {
@@ -51,7 +51,7 @@ fn sources(root: &Path) -> Vec<PathBuf> {
     sources
 }
 
-/// Proves the crate `desk` and writes its archive, if there is need.
+/// Proves the crate `desk_c` and writes its archive, if there is need.
 fn build(root: &Path) {
     let run = match Command::new("bash").arg("tools/archive").current_dir(root).output() {
         Ok(run) => run,

@@ -484,10 +484,6 @@ pub enum Refusal {
     UnknownInstruction = 12,
     /// Record breaks the layout.
     Layout = 13,
-    /// Ill-formed or nested batch.
-    Batch = 14,
-    /// An instruction runs past the tail or the batch's end.
-    PastEnd = 15,
     /// With the lock set, a table write would store a valid entry of type 00 or 11 whose page is protected. Nothing is
     /// stored.
     ForbiddenEntry = 16,
@@ -495,7 +491,7 @@ pub enum Refusal {
 
 impl Refusal {
     /// Every refusal, in the order of its code.
-    pub const ALL: [Refusal; 16] = [
+    pub const ALL: [Refusal; 14] = [
         Refusal::Arguments,
         Refusal::Width,
         Refusal::TranslationOff,
@@ -509,8 +505,6 @@ impl Refusal {
         Refusal::RingOffset,
         Refusal::UnknownInstruction,
         Refusal::Layout,
-        Refusal::Batch,
-        Refusal::PastEnd,
         Refusal::ForbiddenEntry,
     ];
 
@@ -537,8 +531,6 @@ impl Refusal {
             11 => Refusal::RingOffset,
             12 => Refusal::UnknownInstruction,
             13 => Refusal::Layout,
-            14 => Refusal::Batch,
-            15 => Refusal::PastEnd,
             16 => Refusal::ForbiddenEntry,
             _ => return None,
         })
@@ -571,8 +563,6 @@ impl Refusal {
             Refusal::RingOffset => "ring head or tail offset is not below the ring length",
             Refusal::UnknownInstruction => "unknown instruction",
             Refusal::Layout => "record breaks the layout",
-            Refusal::Batch => "batch is ill-formed or nested",
-            Refusal::PastEnd => "instruction runs past the tail or the batch's end",
             Refusal::ForbiddenEntry => "SMRAM is locked and the entry's page is protected",
         }
     }
@@ -779,11 +769,14 @@ mod tests {
         for number in 0..=u8::MAX {
             assert_eq!(Kind::from_number(number).map(Kind::number), (1..=9).contains(&number).then_some(number));
             assert_eq!(Target::from_number(number).map(Target::number), (number <= 6).then_some(number));
-            assert_eq!(Refusal::from_code(number).map(Refusal::code), (1..=16).contains(&number).then_some(number));
+            assert_eq!(
+                Refusal::from_code(number).map(Refusal::code),
+                (matches!(number, 1..=13 | 16)).then_some(number)
+            );
         }
         assert_eq!(Kind::ALL.map(Kind::number), [1, 2, 3, 4, 5, 6, 7, 8, 9]);
         assert_eq!(Target::ALL.map(Target::number), [0, 1, 2, 3, 4, 5, 6]);
-        assert_eq!(Refusal::ALL.map(Refusal::code), [1, 2, 3, 4, 5, 6, 7, 8, 9, 10, 11, 12, 13, 14, 15, 16]);
+        assert_eq!(Refusal::ALL.map(Refusal::code), [1, 2, 3, 4, 5, 6, 7, 8, 9, 10, 11, 12, 13, 16]);
     }
 
     /// "Kinds: 1 I/O read, ... 9 reset", and each constructor keeps the layout.
@@ -846,7 +839,7 @@ mod tests {
     #[test]
     fn words_say_what_was_refused() {
         assert_eq!(Refusal::PageProtected.to_string(), "refused 6: entry's page is protected");
-        assert_eq!(Answer { code: 17, ..Answer::default() }.to_string(), "no code 17");
+        assert_eq!(Answer { code: 14, ..Answer::default() }.to_string(), "no code 14");
         let refused = Answer { code: 4, address: 0x1_2ABC, ..Answer::default() };
         assert_eq!(refused.to_string(), "refused 4: entry is not valid, address 12ABCh");
         assert_eq!(

@@ -8,7 +8,6 @@
 //! Each function quotes the sentence that it implements. `wrong` asks for a deliberate fault, which only
 //! tests have, and is constantly false in [`replay`].
 
-mod batch;
 mod configuration;
 mod display;
 mod forbidden;
@@ -20,7 +19,6 @@ mod shadow;
 mod table;
 mod window;
 
-pub use batch::{instruction_words, Batch};
 pub use configuration::{Lsmm, Smram};
 pub use display::Place;
 pub use observe::{Observer, Rule, TableWord, Touch, Unobserved, WordUse};
@@ -217,8 +215,6 @@ pub struct Gmch<'m, O = Unobserved, F = Faultless> {
     fences: [Fence; 8],
     table_control: u32,
     ring: Ring,
-    /// The open batch, if there is one.
-    batch: Option<Batch>,
     interrupt_enable: u16,
     interrupt_identity: u16,
     interrupt_mask: u16,
@@ -307,7 +303,6 @@ impl<'m, O: Observer, F: Faults> Gmch<'m, O, F> {
             fences: [Fence(0); 8],
             table_control: 0,
             ring: Ring::default(),
-            batch: None,
             interrupt_enable: 0,
             interrupt_identity: 0,
             interrupt_mask: 0,
@@ -320,9 +315,9 @@ impl<'m, O: Observer, F: Faults> Gmch<'m, O, F> {
     }
 
     /// "Reset restores defaults and zeroes the table; memory stays", that of the display cache too. Of a table in main
-    /// memory: "A reset leaves those words." Of a batch: "reset drops it."
+    /// memory: "A reset leaves those words."
     fn reset(&mut self) {
-        let (display_registers, batch) = (self.display_registers, self.batch);
+        let display_registers = self.display_registers;
         if self.wrong(Fault::ResetClearsDisplay) {
             self.clear_display();
         }
@@ -349,9 +344,6 @@ impl<'m, O: Observer, F: Faults> Gmch<'m, O, F> {
         if self.wrong(Fault::ResetKeepsDisplayRegisters) {
             self.display_registers = display_registers;
         }
-        if self.wrong(Fault::ResetKeepsBatch) {
-            self.batch = batch;
-        }
     }
 
     fn restore_defaults(&mut self) {
@@ -367,7 +359,6 @@ impl<'m, O: Observer, F: Faults> Gmch<'m, O, F> {
         self.fences = [Fence(0); 8];
         self.table_control = 0;
         self.ring = Ring::default();
-        self.batch = None;
         self.interrupt_enable = 0;
         self.interrupt_identity = 0;
         // "All listed registers default to 0 but 20A8h."

@@ -12,26 +12,37 @@ use std::time::{Duration, SystemTime};
 
 const HOST: &str = env!("CARGO_MANIFEST_DIR");
 
-/// Writes down its words; its archive has the sources in it. It fails where a file `broken` is.
+/// Writes down its words with the crate, and leaves something in the crate's `out`, another each time; its archive has the
+/// sources in it. It fails where a file `broken` is.
 const TOOLCHAIN: &str = r#"#!/bin/sh
-echo "$*" >>asked
-if [ "$1" = --version ]; then cat version; exit; fi
+crate=${PWD##*/}
+cd "${0%/*}/.." || exit
+if [ "$1" = version ]; then echo version >>asked; cat version; exit; fi
+echo "$* $crate" >>asked
 echo "rt: much is said"
-if [ -e broken ]; then echo "rt: $2 NOT PROVED" >&2; exit 3; fi
-if [ "$1" = staticlib ]; then mkdir -p target/staticlib; cat crates.txt crates/*/*/* >target/staticlib/libdesk.a; fi
+if [ -e broken ]; then echo "rt: $crate NOT PROVED" >&2; exit 1; fi
+mkdir -p "crates/$crate/out"
+wc -l <asked >"crates/$crate/out/kept"
+if [ "$crate" = desk_c ]; then
+    find crates.txt crates -name out -prune -o -type f -print | sort | xargs cat >crates/desk_c/out/libdesk_c.a
+fi
 "#;
 
-/// A repository with two crates.
+/// A repository whose archive takes three crates.
 struct Repository(PathBuf);
 
 impl Repository {
     fn new(name: &str) -> Repository {
         let own = Repository(folder(&format!("archive-{name}")));
-        own.write("crates.txt", "# crate: what it rests on\nwords:\ndesk: words\nvectors: desk\n");
+        own.write(
+            "crates.txt",
+            "# crate: what it rests on\nwords:\ndesk: words\ndesk_c staticlib: desk\nvectors: desk\n",
+        );
         own.write("crates/words/src/lib.rt", "words");
         own.write("crates/words/specs/Words.antt", "specs");
         own.write("crates/desk/src/lib.rt", "desk");
         own.write("crates/desk/proofs/Desk.antt", "proofs");
+        own.write("crates/desk_c/src/lib.rt", "desk_c");
         own.write("version", "kit 1\n");
         own.write("asked", "");
         own.write("bin/rt", TOOLCHAIN);
@@ -87,10 +98,10 @@ impl Repository {
 
     /// Runs `tools/archive` and tells whether it made the archive; if it did not, it said nothing.
     fn makes(&self) -> bool {
-        let before = self.asked("staticlib desk");
+        let before = self.asked("lib desk_c");
         let run = self.archive(&[]);
         assert!(run.status.success(), "{run:?}");
-        let made = self.asked("staticlib desk") > before;
+        let made = self.asked("lib desk_c") > before;
         assert_eq!(run.stdout.is_empty(), !made, "{run:?}");
         made
     }
@@ -116,8 +127,8 @@ fn an_archive_is_made_once_with_a_line_for_each_crate() {
     let run = own.archive(&[]);
     let said = String::from_utf8(run.stdout).expect("text");
     let lines: Vec<&str> = said.lines().skip(1).map(|line| line.split(" .. ").next().unwrap_or_default()).collect();
-    assert_eq!(lines, ["proving words    (1 of 2)", "proving desk     (2 of 2)"]);
-    assert_eq!(own.read("asked"), "--version\ncheck words\nstaticlib desk\n");
+    assert_eq!(lines, ["proving words    (1 of 3)", "proving desk     (2 of 3)", "proving desk_c   (3 of 3)"]);
+    assert_eq!(own.read("asked"), "version\nlib words\nlib desk\nlib desk_c\n");
     assert!(!own.makes());
 }
 
@@ -202,7 +213,7 @@ fn what_the_toolchain_says_is_shown_if_it_fails() {
         let said = String::from_utf8(run.stderr).expect("text");
         assert!(!run.status.success());
         assert!(said.contains("rt: much is said\nrt: words NOT PROVED\n"), "{said}");
-        assert!(said.contains("'rt check words' failed"), "{said}");
+        assert!(said.contains("'rt lib' in crates/words failed"), "{said}");
     }
     assert_eq!(own.read("target/staticlib/libdesk.a.made-from"), before);
 }
@@ -216,7 +227,7 @@ fn an_archive_of_before_is_not_taken_for_the_new_one() {
     for _ in 0..2 {
         let run = own.archive(&[]);
         assert!(!run.status.success());
-        assert!(String::from_utf8_lossy(&run.stderr).contains("wrote no target/staticlib/libdesk.a"), "{run:?}");
+        assert!(String::from_utf8_lossy(&run.stderr).contains("wrote no crates/desk_c/out/libdesk_c.a"), "{run:?}");
     }
 }
 
@@ -227,9 +238,9 @@ fn cargo_runs_the_script_only_when_there_is_need() {
     own.write("host/Cargo.toml", "[package]\nname = \"small\"\nedition = \"2021\"\n[workspace]\n");
     own.write("host/src/lib.rs", "pub const ARCHIVE: &str = env!(\"MITROPHEL_ARCHIVE_SHA256\");\n");
     own.copy("build.rs", "host/build.rs");
-    let runs = || own.asked("--version");
+    let runs = || own.asked("version");
     own.cargo();
-    assert_eq!((runs(), own.asked("staticlib desk")), (1, 1));
+    assert_eq!((runs(), own.asked("lib desk_c")), (1, 1));
     own.cargo();
     assert_eq!(runs(), 1, "the script's own archive is a reason to run it again");
 
@@ -237,7 +248,7 @@ fn cargo_runs_the_script_only_when_there_is_need() {
     own.backdate("crates/desk/src/lib.rt");
     assert!(own.makes());
     own.cargo();
-    assert_eq!((runs(), own.asked("staticlib desk")), (3, 2));
+    assert_eq!((runs(), own.asked("lib desk_c")), (3, 2));
     own.cargo();
     assert_eq!(runs(), 3);
 }
@@ -253,12 +264,12 @@ fn a_copy_is_a_repository_of_its_own() {
     let copy = Repository(folder("archive-copy"));
     let copied = Command::new("cp").arg("-a").arg(first.0.join(".")).arg(&copy.0).status().expect("cp runs");
     assert!(copied.success());
-    let before = copy.asked("staticlib desk");
+    let before = copy.asked("lib desk_c");
     copy.cargo();
-    assert_eq!(copy.asked("staticlib desk"), before, "nothing has changed");
+    assert_eq!(copy.asked("lib desk_c"), before, "nothing has changed");
     copy.write("crates/desk/src/lib.rt", "changed");
     copy.cargo();
-    assert_eq!((copy.asked("staticlib desk"), first.asked("staticlib desk")), (before + 1, before));
+    assert_eq!((copy.asked("lib desk_c"), first.asked("lib desk_c")), (before + 1, before));
     assert!(copy.read("target/staticlib/libdesk.a").contains("changed"));
 }
 

@@ -119,68 +119,6 @@ fn a_display_cache_stays_inside_its_buffer() {
     }
 }
 
-/// Request 1 of document 02: a 30h and a batch are read up to the last word of memory and of the display cache, and no
-/// further, and a batch that goes on past the window's end ends there.
-#[test]
-fn a_batch_stays_inside_both_memories() {
-    const TOP: u32 = 8 << 20;
-    const CACHE: u32 = DISPLAY_BYTES as u32;
-    const PAGE: u32 = 0x1000;
-    let (mut memory, mut lent) = (Guarded::new(TOP as usize), Guarded::new(DISPLAY_BYTES));
-    let mut script = Script::new();
-    let mut runs = Vec::new();
-    for (ring, before_end) in [0, 2, 0x3FFF].into_iter().flat_map(|page| [4, 8, 12].map(|bytes| (page * PAGE, bytes))) {
-        script.push(Record::reset());
-        script.graphics();
-        script.register_write(0x2020, 0x20_0001);
-        script.register_write(0x3000, 1);
-        // The last page of each memory, and what would come after it; and the window's last.
-        let (last, last_of_cache) = ((TOP - PAGE) | 1, (CACHE - PAGE) | 3);
-        for (page, entry) in [(0, last), (1, TOP | 1), (2, last_of_cache), (3, CACHE | 3), (0x3FFF, last)] {
-            script.entry(page, entry);
-        }
-        let put = |script: &mut Script, at: u32, word: u32| {
-            script.push(Record::write(Script::WINDOW + ring + at, 4, word, false));
-        };
-        // The 30h is the last in its page or goes around the ring's end, and the batch has the page's last four words and
-        // three more.
-        let words = [0x1800_0000, ring + PAGE - 16, ring + PAGE + 8];
-        for (at, word) in (PAGE - before_end..).step_by(4).zip(words) {
-            put(&mut script, at % PAGE, word);
-        }
-        script.ring(ring, 1, PAGE - before_end, 0x10);
-        runs.push(script.run(1));
-        // A 30h is no word of a batch.
-        for at in (PAGE - 16..PAGE).step_by(4) {
-            put(&mut script, at, 0);
-        }
-        runs.push(script.run(u32::MAX));
-    }
-    let records = record::encode(&script.records);
-    for board in Board::ALL {
-        let (number, length) = (board.number(), board.display_bytes());
-        let (mut expected, mut expected_memory) = (vec![0; records.len()], vec![0; TOP as usize]);
-        let mut expected_display = vec![0; length];
-        let display = &mut expected_display;
-        assert_eq!(reference::replay(number, &mut expected_memory, &records, &mut expected, display), 0);
-        let answers: Vec<_> = record::decode_answers(&expected).collect();
-        let seen: Vec<_> = runs.iter().map(|&at| (answers[at].code, answers[at].count)).collect();
-        let in_cache = if length == 0 { [(5, 0), (5, 0)] } else { [(0, 1), (7, 4)] };
-        let wanted = [[(0, 1), (7, 4)], in_cache, [(0, 1), (8, 4)]].map(|runs| runs.repeat(3)).concat();
-        assert_eq!(seen, wanted, "board {board}");
-        for side in [Side::Before, Side::After] {
-            memory.whole().fill(0);
-            lent.part(length, side).fill(0);
-            let mut answers = vec![0xA5; records.len()];
-            let display = lent.part(length, side);
-            assert_eq!(call::gmch_replay(number, memory.whole(), &records, &mut answers, display), 0);
-            assert!(answers == expected, "board {board}: the answers differ");
-            assert!(memory.whole() == expected_memory, "board {board}: memory differs");
-            assert!(display == expected_display, "board {board}: the display cache differs");
-        }
-    }
-}
-
 /// The same for arguments that are refused: lengths that are wrong by one must not be believed.
 #[test]
 fn a_refused_call_stays_inside_each_buffer() {

@@ -68,7 +68,7 @@ impl Noticed {
     }
 }
 
-/// Each of the wrong references differs from document 01, or from request 1, 3, 5, 6, 8, 9, 10 or 11 of document 02, in one
+/// Each of the wrong references differs from document 01, or from request 3, 5, 6, 8, 9, 10 or 11 of document 02, in one
 /// sentence, which its comment in `faults` states.
 #[test]
 fn every_wrong_reference_is_caught_by_the_random_comparison() {
@@ -119,7 +119,7 @@ fn every_wrong_reference_is_caught_by_the_random_comparison() {
 }
 
 /// Faults that open protected memory, for the two runs of demand 3.
-const LEAKS: [Fault; 27] = [
+const LEAKS: [Fault; 23] = [
     Fault::ProtectionNotChecked,
     Fault::ProtectionOfOffset,
     Fault::ManagementExemptInWindow,
@@ -143,10 +143,6 @@ const LEAKS: [Fault; 27] = [
     Fault::LockEndsCheckOfWords,
     Fault::PamrCoversCompatible,
     Fault::ShadowAtTop,
-    Fault::BatchIsPhysical,
-    Fault::BatchReadsProtected,
-    Fault::ProtectedBatchReads,
-    Fault::FormBeforeProtection,
 ];
 
 /// Those that need more memory.

@@ -8,10 +8,9 @@ use mitrophel::{call, record, reference, Board, DISPLAY_BYTES};
 use std::time::Instant;
 
 /// Demand 2 as a test: "Each call is a cold start, replays all records in order and returns 0", and
-/// every answer and every byte of both memories is what document 01 and requests 1, 3, 5, 8, 9, 10 and 11 of document 02
-/// say. On every board every code, every write of a power state, and all of a display cache, of forbidden entries, of shadow
-/// memory and the hole, and of batches must have been met, and so must every kind, target, rule and event, and every place
-/// of a refusal.
+/// every answer and every byte of both memories is what document 01 and requests 3, 5, 8, 9, 10 and 11 of document 02 say.
+/// On every board every code, every write of a power state, and all of a display cache, of forbidden entries and of shadow
+/// memory and the hole must have been met, and so must every kind, target, rule and event, and every place of a refusal.
 #[test]
 fn call_and_reference_agree_on_random_lists() {
     let started = Instant::now();

@@ -809,18 +809,14 @@ fn a_budget_ends_a_run_before_the_next_word_is_looked_at() {
 }
 
 /// "Bits 31:29 zero and 28:23: 00h nothing, 02h user interrupt, 04h flush (nothing), else 12; other
-/// bits are not looked at." Request 1 of document 02 adds 30h, which runs past this ring's tail.
+/// bits are not looked at."
 #[test]
 fn three_instructions_are_known() {
     for high in (0..512_u32).filter(|high| *high < 66 || high.is_multiple_of(37)) {
         let memory = &mut instructions(&[high << 23 | 0x007F_FFFF]);
         let mut script = ring(0, 8);
         let run = script.run(1);
-        let expected = match high {
-            0x00 | 0x02 | 0x04 => ran(0, 4, 1),
-            0x30 => ran(15, 0, 0),
-            _ => ran(12, 0, 0),
-        };
+        let expected = if matches!(high, 0 | 2 | 4) { ran(0, 4, 1) } else { ran(12, 0, 0) };
         assert_eq!(script.replay_on(memory)[run], expected, "{high:X}h");
     }
 }

@@ -1,4 +1,4 @@
-// The host's call: the one function that the archive exports.
+// The host's call. The crate desk_c exports it.
 #![tactic(auto)]
 
 ghost use Rattle.std.specs.Prelude.{◌≡◌};
@@ -31,8 +31,7 @@ pub fn good_call(kind: u32, tom: usize, records: usize, answers: usize, display:
 
 // A cold start, and a replay of all records in order on the memory and the display cache lent. Returns 0, with both and the
 // answers as the definitions say; or 1, with all three as they were, where an argument is wrong.
-#[unsafe(no_mangle)]
-pub extern "C" fn gmch_replay(
+pub fn gmch_replay(
     kind: u32,
     memory: &mut [u8],
     records: &[u8],

@@ -3,58 +3,47 @@
 #![tactic(auto)]
 
 use gmch::{Map, Place, State, Target};
-
-fn text(t: &[u8]) {
-    io::write_all(1, t);
-}
-
-fn hex(n: u32) {
-    io::print_hex(1, n as u64, 8);
-}
+use std::io;
 
 // ---- the whole case, board kind 0: CF8h is written 80000000h, then four bytes at CFCh are read
 
 // CF8h after a write of `v`, if that is where it ends.
-fn select(s: State, v: u32) -> State {
+fn select(rt: &impl Print, s: State, v: u32) -> io::Result<State> {
     match config::port_target(s.cf8, 0, 4, 0xCF8) {
         Target::Register(n) => {
             if n == 0xCF8 {
-                text(b"CF8h is written ");
-                hex(v);
-                text(b": register 00000cf8\n");
+                println!(rt; "CF8h is written {v:08x}: register 00000cf8")?;
                 let mut t = s;
                 t.cf8 = config::selected(v);
-                return t;
+                return Ok(t);
             }
-            s
+            Ok(s)
         }
-        _ => s,
+        _ => Ok(s),
     }
 }
 
 // Four bytes at CFCh.
-fn read(s: State) {
+fn read(rt: &impl Print, s: State) -> io::Result<()> {
     match config::port_target(s.cf8, 0, 4, 0xCFC) {
         Target::Register(n) => {
-            text(b"CFCh is read: register ");
-            hex(n);
+            print!(rt; "CFCh is read: register {n:08x}")?;
             if n % 4 == 0 {
                 if n < 512 {
-                    text(b", value ");
-                    hex(config::register_value(s.cf8, &s.dev0, &s.dev1, n, 4));
+                    let value = config::register_value(s.cf8, &s.dev0, &s.dev1, n, 4);
+                    print!(rt; ", value {value:08x}")?;
                 }
             }
-            text(b"\n");
+            println!(rt; "")
         }
-        _ => text(b"CFCh is read: the hub\n"),
+        _ => println!(rt; "CFCh is read: the hub"),
     }
 }
 
 // ---- an entry that is 0, where translation is on and main memory has 8 MiB
 
-fn entry(v: u32) {
-    text(b"entry ");
-    hex(v);
+fn entry(rt: &impl Print, v: u32) -> io::Result<()> {
+    print!(rt; "entry {v:08x}")?;
     let m = Map {
         kind: 0,
         tom: 0x800000,
@@ -66,44 +55,28 @@ fn entry(v: u32) {
         cache: false,
     };
     match graphics::entry_reach(m, v, 0) {
-        Place::InMain(p) => {
-            text(b" reaches ");
-            hex(p);
-        }
-        Place::InCache(p) => {
-            text(b" reaches the display cache at ");
-            hex(p);
-        }
-        Place::NoPlace(c, _) => {
-            text(b" is refused with code ");
-            io::print_decimal(1, c as u64);
-        }
+        Place::InMain(p) => println!(rt; " reaches {p:08x}"),
+        Place::InCache(p) => println!(rt; " reaches the display cache at {p:08x}"),
+        Place::NoPlace(c, _) => println!(rt; " is refused with code {c}"),
     }
-    text(b"\n");
 }
 
 // ---- zero records
 
-fn call(length: usize) {
-    text(b"a call with records of ");
-    io::print_decimal(1, length as u64);
+fn call(rt: &impl Print, length: usize) -> io::Result<()> {
+    print!(rt; "a call with records of {length}")?;
     if desk::good_call(0, 0x800000, length, length, 0) {
-        text(b" bytes: result 0\n");
+        println!(rt; " bytes: result 0")
     } else {
-        text(b" bytes: result 1\n");
+        println!(rt; " bytes: result 1")
     }
 }
 
 // ---- the power state of device 1, from any value: 01 and 10 cannot be left there by a replay from a cold start
 
 // PM_CS holds `held`, and the n low bytes of v are written to it.
-fn power(held: u8, v: u32, n: u32) {
-    text(b"PM_CS ");
-    hex(held as u32);
-    text(b", written ");
-    hex(v);
-    text(b" in ");
-    hex(n);
+fn power(rt: &impl Print, held: u8, v: u32, n: u32) -> io::Result<()> {
+    print!(rt; "PM_CS {held:08x}, written {v:08x} in {n:08x}")?;
     let dev0 = [0u8; 256];
     let mut dev1 = [0u8; 256];
     dev1[0xE0] = held;
@@ -111,26 +84,26 @@ fn power(held: u8, v: u32, n: u32) {
         let data = config::access::effective(0x1E0, held, v);
         config::access::write(&mut dev1, rows::bits_of(0x78, false, false), 0x1E0, n, data);
     }
-    text(b" bytes: ");
-    hex(config::register_value(0, &dev0, &dev1, 0x1E0, 4));
-    text(b"\n");
+    let value = config::register_value(0, &dev0, &dev1, 0x1E0, 4);
+    println!(rt; " bytes: {value:08x}")
 }
 
 // Each state held and each written, with bit 8.
-fn powers(n: u32) {
+fn powers(rt: &impl Print, n: u32) -> io::Result<()> {
     let mut i: u32 = 0;
     while i < 16 {
-        power((i / 4) as u8, 0x100 + i % 4, n);
+        power(rt, (i / 4) as u8, 0x100 + i % 4, n)?;
         i = i + 1;
     }
+    Ok(())
 }
 
-fn main() {
-    let s = select(config::cold_start(0), 0x80000000);
-    read(s);
-    entry(0);
-    call(0);
-    powers(1);
-    powers(2);
-    powers(4);
+fn main(rt: HostRuntime) -> io::Result<()> {
+    let s = select(&rt, config::cold_start(0), 0x80000000)?;
+    read(&rt, s)?;
+    entry(&rt, 0)?;
+    call(&rt, 0)?;
+    powers(&rt, 1)?;
+    powers(&rt, 2)?;
+    powers(&rt, 4)
 }

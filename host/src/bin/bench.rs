@@ -16,8 +16,6 @@ const WORK: usize = 20_000;
 const WINDOW: u32 = 0xC000_0000;
 const REGISTERS: u32 = 0xF000_0000;
 const PAGE: u32 = 4096;
-/// The largest ring.
-const RING: u32 = 2 << 20;
 /// Where a table in main memory lies: past the pages that the loads map.
 const TABLE: u32 = 7 << 20;
 /// The boards of the loads: one with a private table, one with its table in main memory, and one with a private table and
@@ -104,16 +102,6 @@ fn mixed_opcodes(random: &mut Random) -> Vec<u8> {
     (0..MEMORY / 4).flat_map(|_| u32::to_le_bytes(word())).collect()
 }
 
-/// A ring of 2 MiB that is full of starts of one batch, which has eight no-ops and comes after it in the window.
-fn starts(_: &mut Random) -> Vec<u8> {
-    let mut memory = vec![0; MEMORY];
-    let words = [0x1800_0000, RING, RING + 28].map(u32::to_le_bytes).concat();
-    for instruction in memory[1 << 20..][..RING as usize].chunks_exact_mut(words.len()) {
-        instruction.copy_from_slice(&words);
-    }
-    memory
-}
-
 /// Reads through the window over its first 4 MiB, with these fences.
 fn window_reads(name: &'static str, board: Board, fences: &[u32], random: &mut Random) -> Load {
     let mut records = setup(board, 1024);
@@ -141,37 +129,6 @@ fn runs(name: &'static str, board: Board, memory: fn(&mut Random) -> Vec<u8>, bu
         records.push(Record::run(budget));
     }
     Load { name, unit: "step", board, memory, records }
-}
-
-/// Runs of this budget in one batch of 2 MiB, which a ring in the page after it starts again with each whole run.
-fn batch_runs(name: &'static str, board: Board, memory: fn(&mut Random) -> Vec<u8>, budget: u32, count: u32) -> Load {
-    let mut records = setup(board, RING / PAGE + 1);
-    for (word, at) in [0x1800_0000, 0, RING - 4, 0].into_iter().zip((RING..).step_by(4)) {
-        records.push(Record::write(WINDOW + at, 4, word, false));
-    }
-    records.push(register(0x2038, RING));
-    records.push(register(0x203C, 1));
-    records.push(register(0x2030, 16));
-    for _ in 0..count {
-        if budget == u32::MAX {
-            records.push(register(0x2034, 0));
-        }
-        records.push(Record::run(budget));
-    }
-    Load { name, unit: "step", board, memory, records }
-}
-
-/// Runs over a ring of 2 MiB that starts as many batches as it can hold.
-fn short_batches(name: &'static str, board: Board) -> Load {
-    let mut records = setup(board, RING / PAGE + 1);
-    records.push(register(0x203C, (RING / PAGE - 1) << 12 | 1));
-    // The last multiple of 8 where an instruction ends.
-    records.push(register(0x2030, RING / 24 * 24));
-    for _ in 0..2 {
-        records.push(register(0x2034, 0));
-        records.push(Record::run(u32::MAX));
-    }
-    Load { name, unit: "step", board, memory: starts, records }
 }
 
 fn table_writes(name: &'static str, board: Board, random: &mut Random) -> Load {
@@ -297,16 +254,6 @@ fn loads() -> Vec<Load> {
         locked_table_writes("table writes, locked, table in memory", MAIN, random),
         steered_reads("shadow reads", (0x51, 0x55), 0xC_0000, 256 << 10, random),
         steered_reads("memory reads, hole on", (0x58, 0x80), 1 << 20, 7 << 20, random),
-        batch_runs("batch no-ops", PRIVATE, no_ops, u32::MAX, 2),
-        batch_runs("batch no-ops, budget 8", PRIVATE, no_ops, 8, count),
-        batch_runs("batch mixed", PRIVATE, mixed_opcodes, u32::MAX, 2),
-        batch_runs("batch mixed, budget 8", PRIVATE, mixed_opcodes, 8, count),
-        short_batches("batches of eight no-ops", PRIVATE),
-        batch_runs("batch no-ops, table in memory", MAIN, no_ops, u32::MAX, 2),
-        batch_runs("batch no-ops, budget 8, table in memory", MAIN, no_ops, 8, count),
-        batch_runs("batch mixed, table in memory", MAIN, mixed_opcodes, u32::MAX, 2),
-        batch_runs("batch mixed, budget 8, table in memory", MAIN, mixed_opcodes, 8, count),
-        short_batches("batches of eight no-ops, table in memory", MAIN),
     ]
 }
 

@@ -1,6 +1,5 @@
 //! Looking at a replay from outside, at no cost to one that nobody looks at.
 
-use super::Batch;
 use crate::record::{Answer, Record, Refusal};
 use std::fmt;
 
@@ -50,14 +49,6 @@ pub trait Observer {
     #[inline(always)]
     fn table_word(&mut self, _word: TableWord) {}
 
-    /// A step of the parser opened this batch.
-    #[inline(always)]
-    fn batch_opened(&mut self, _batch: Batch) {}
-
-    /// A step of the parser carried out the last word of the open batch, which closed it.
-    #[inline(always)]
-    fn batch_closed(&mut self) {}
-
     /// A record was answered.
     #[inline(always)]
     fn answered(&mut self, _record: &Record, _answer: &Answer) {}
@@ -102,16 +93,6 @@ impl<O: Observer> Observer for &mut O {
     #[inline(always)]
     fn table_word(&mut self, word: TableWord) {
         (**self).table_word(word);
-    }
-
-    #[inline(always)]
-    fn batch_opened(&mut self, batch: Batch) {
-        (**self).batch_opened(batch);
-    }
-
-    #[inline(always)]
-    fn batch_closed(&mut self) {
-        (**self).batch_closed();
     }
 
     #[inline(always)]

@@ -189,9 +189,6 @@ impl<O: Observer, F: Faults> Gmch<'_, O, F> {
     /// A listed register; a table word is one of the private table, and may be refused.
     #[inline]
     fn register_write(&mut self, listed: Listed, data: u32, mode: Mode) -> Result<(), Refusal> {
-        if self.drops_batch(listed, data) {
-            self.batch = None;
-        }
         match listed {
             Listed::Fence(i) => self.fences[i] = Fence(data & Fence::BITS),
             Listed::TableControl => self.table_control = data & TABLE_CONTROL_BITS,
@@ -213,21 +210,6 @@ impl<O: Observer, F: Faults> Gmch<'_, O, F> {
             Listed::Display(i) => self.write_display_register(i, data as u8),
         }
         Ok(())
-    }
-
-    /// Whether a register write drops an open batch. None does: request 1 of document 02 has "Clearing the ring enable
-    /// pauses it, reset drops it."
-    #[inline]
-    fn drops_batch(&self, listed: Listed, data: u32) -> bool {
-        match listed {
-            Listed::RingTail => self.wrong(Fault::TailWriteDropsBatch),
-            Listed::RingHead => self.wrong(Fault::HeadWriteDropsBatch),
-            Listed::RingStart => self.wrong(Fault::StartWriteDropsBatch),
-            Listed::RingLength => {
-                self.wrong(Fault::LengthWriteDropsBatch) || data & 1 == 0 && self.wrong(Fault::DisableDropsBatch)
-            }
-            _ => false,
-        }
     }
 
     /// What an entry's register write stores.

@@ -1,8 +1,10 @@
 //! What the tests of the command line share: the program run as a user runs it.
 #![allow(dead_code)]
 
+use std::env;
 use std::ffi::OsStr;
 use std::fs;
+use std::hash::{DefaultHasher, Hash, Hasher};
 use std::io::{Read, Write};
 use std::path::{Path, PathBuf};
 use std::process::{Command, Output, Stdio};
@@ -83,9 +85,13 @@ pub fn example(name: &str) -> String {
     word(&examples().join(name))
 }
 
-/// An empty folder of this test's own.
+/// An empty folder of this test's own. It lies outside of the repository, where `rt ci` would refuse the links and the
+/// lists of crates that tests make; another checkout's tests have theirs.
 pub fn folder(name: &str) -> PathBuf {
-    let folder = Path::new(env!("CARGO_TARGET_TMPDIR")).join(format!("cli-{name}"));
+    let mut checkout = DefaultHasher::new();
+    env!("CARGO_TARGET_TMPDIR").hash(&mut checkout);
+    let all = env::temp_dir().join(format!("mitrophel-tests-{:016x}", checkout.finish()));
+    let folder = all.join(format!("cli-{name}"));
     let _ = fs::remove_dir_all(&folder);
     fs::create_dir_all(&folder).expect("a folder for the test");
     folder

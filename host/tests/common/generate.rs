@@ -1,5 +1,4 @@
-//! Random lists of records that reach the corners of document 01 and of requests 1, 3, 5, 6, 8, 9, 10 and 11 of document
-//! 02.
+//! Random lists of records that reach the corners of document 01 and of requests 3, 5, 6, 8, 9, 10 and 11 of document 02.
 //!
 //! A list is made while the reference replays it, so that each record can aim at the state that it
 //! will meet: at the borders of the map as they stand, at entries and fences that are set, at the
@@ -141,8 +140,6 @@ impl<'m> Generator<'m> {
             pm_cs: u16::from_le_bytes([0xE0, 0xE1].map(|at| self.hub.config_byte(1, at).unwrap_or(0))),
             display_on: self.hub.display_on(),
             display_registers: [0x3000, 0x3001, 0x3002].map(|at| self.hub.register(at).unwrap_or(0) as u8),
-            ring: self.hub.ring(),
-            batch: self.hub.batch(),
         };
         self.hub.observer().words.meets = meets;
         let answer = self.hub.answer(&record);
@@ -222,10 +219,7 @@ impl<'m> Generator<'m> {
         if self.hub.tom() > HOLE && self.random.one_in(24) {
             return self.access_hole();
         }
-        if self.hub.batch().is_some() && self.random.one_in(4) {
-            return self.go_on_in_batch();
-        }
-        match self.random.below(78) {
+        match self.random.below(73) {
             0..=8 => self.access_window(),
             9..=14 => self.access_border(),
             15..=18 => self.access_memory(),
@@ -270,7 +264,6 @@ impl<'m> Generator<'m> {
             69 => self.access_shadow(),
             70 => self.access_hole(),
             71 => self.reach_behind(),
-            72..=76 => self.use_batch(),
             _ => self.reset(),
         }
     }
@@ -1384,23 +1377,18 @@ impl<'m> Generator<'m> {
                 5 => 0,
                 _ => instruction(noise),
             };
-            self.place_word(ring.start + offset, word);
+            let through = self.hub.window_base().wrapping_add(ring.start + offset);
+            let management = self.random.one_in(8);
+            match self.hub.fetch_address(ring.start + offset) {
+                Ok(Place::Memory(address)) if self.random.one_in(2) => {
+                    self.emit(Record::write(address, 4, word, management));
+                }
+                Ok(Place::Memory(address)) if self.random.one_in(2) => {
+                    self.emit(Record::master_write(address, 4, word));
+                }
+                _ => self.emit(Record::write(through, 4, word, management)),
+            }
             offset = (offset + 4) % ring.bytes();
-        }
-    }
-
-    /// Puts a word where the parser will fetch it at this graphics offset.
-    fn place_word(&mut self, offset: u32, word: u32) {
-        let through = self.hub.window_base().wrapping_add(offset);
-        let management = self.random.one_in(8);
-        match self.hub.fetch_address(offset) {
-            Ok(Place::Memory(address)) if self.random.one_in(2) => {
-                self.emit(Record::write(address, 4, word, management));
-            }
-            Ok(Place::Memory(address)) if self.random.one_in(2) => {
-                self.emit(Record::master_write(address, 4, word));
-            }
-            _ => self.emit(Record::write(through, 4, word, management)),
         }
     }
 
@@ -1411,10 +1399,7 @@ impl<'m> Generator<'m> {
             self.set_smram(smram & 0x3D);
         }
         let ring = self.hub.ring();
-        let between = match self.hub.batch() {
-            Some(batch) => batch.words_left(),
-            None => (ring.tail.wrapping_sub(ring.head_offset()) & 0x001F_FFFF) / 4,
-        };
+        let between = (ring.tail.wrapping_sub(ring.head_offset()) & 0x001F_FFFF) / 4;
         let budget = match self.random.below(10) {
             0 => 0,
             1 | 2 => 1,
@@ -1425,266 +1410,6 @@ impl<'m> Generator<'m> {
             _ => u32::MAX,
         };
         self.emit(Record::run(budget));
-    }
-
-    // Batches -----------------------------------------------------------------------------------
-
-    /// A batch in a page of the window, the 30h for it at the ring's head, and runs; between them what may happen to an
-    /// open batch.
-    fn use_batch(&mut self) {
-        self.prepare_batch();
-        if self.random.one_in(3) {
-            self.access_interrupts();
-        }
-        let budget = self.random.pick(&[1, 2, 3, 4, 6, u32::MAX, u32::MAX]);
-        self.emit(Record::run(budget));
-        for _ in 0..self.random.below(4) {
-            if self.hub.batch().is_some() {
-                self.go_on_in_batch();
-            }
-        }
-        if self.hub.batch().is_some() && !self.random.one_in(4) {
-            self.leave_batch();
-        }
-        if self.random.one_in(3) {
-            self.register_write(0x20A8, 2, 0);
-            self.register_write(0x20A0, 2, 2);
-            self.register_read(0x20A4);
-        }
-    }
-
-    /// A batch that is left open, as far as it can be opened.
-    pub fn open_batch(&mut self) {
-        self.prepare_batch();
-        let budget = 1 + self.random.below(3);
-        self.emit(Record::run(budget));
-    }
-
-    /// A batch, and the 30h for it at the ring's head.
-    fn prepare_batch(&mut self) {
-        if !self.reaches_registers() {
-            self.repair();
-        }
-        if self.hub.batch().is_some() {
-            self.leave_batch();
-        }
-        let (start, last) = self.place_batch();
-        self.place_start(start, last);
-    }
-
-    /// An entry by which most fetches are answered.
-    fn fetchable(&mut self) -> u32 {
-        match self.random.below(8) {
-            0 if self.hub.tom() >= 64 * MIB => (self.hub.tom() - PAGE) | 1,
-            0..=2 if self.hub.display_on() => self.random.below(DISPLAY_BYTES as u32) & !(PAGE - 1) | 3,
-            _ => self.random.below(self.hub.usable_top()) & !(PAGE - 1) | 1,
-        }
-    }
-
-    /// An entry of a protected page or, where nothing is protected, of one that may be.
-    fn protected_entry(&mut self) -> u32 {
-        let tseg = self.hub.smram().tseg_bytes();
-        let page = match self.random.below(2) {
-            0 if tseg != 0 => self.hub.tom() - 1 - self.random.below(tseg),
-            _ => 0xA_0000 + self.random.below(128 * KIB),
-        };
-        page & !(PAGE - 1) | self.random.pick(&[1, 1, 7])
-    }
-
-    /// Puts a batch's words into the window: where it starts, and where its last word is.
-    fn place_batch(&mut self) -> (u32, u32) {
-        let window = self.hub.window_bytes();
-        // How many of its words are in its first page, where the others are to be in the next.
-        let split = self.random.one_in(6).then(|| 2 * (1 + self.random.below(2)));
-        let start = match (split, self.random.below(16)) {
-            (Some(words), _) => (self.window_page() + 1) * PAGE - 4 * words,
-            (_, 0) => window - 8 * (1 + self.random.below(3)),
-            (_, 1) if self.random.one_in(4) => self.random.pick(&[window, window + 8, 0x8000_0000, 0xFFFF_FFF8]),
-            (_, 2) => self.window_page() * PAGE,
-            _ => self.window_page() * PAGE + (self.random.below(PAGE - 64) & !7),
-        };
-        let words = self.random.pick(&[1, 1, 2, 3, 3, 4, 5, 8, 11]) + split.unwrap_or(0);
-        let last = match self.random.below(24) {
-            0 if self.random.one_in(4) => self.random.pick(&[window - 4, window, window + 4, 0xFFFF_FFFC]).max(start),
-            _ => start.saturating_add(4 * (words - 1)),
-        };
-        for page in [start / PAGE, last / PAGE] {
-            let entry = match self.random.below(16) {
-                0 => self.entry(),
-                1 => self.protected_entry(),
-                2 => continue,
-                3..=7 if page != start / PAGE => self.entry(),
-                _ => self.fetchable(),
-            };
-            if (page as usize) < TABLE_WORDS {
-                self.store_entry(page, entry);
-            }
-        }
-        // A batch in the batch, further on in it.
-        let inner = match split {
-            Some(words) if self.random.one_in(2) => words - 1 - self.random.below(2),
-            _ => self.random.below(24),
-        };
-        for (number, at) in (0..12).zip((start..=last).step_by(4)) {
-            let noise = self.random.word();
-            let word = match self.random.below(24) {
-                _ if number == inner => 0x1800_0000,
-                _ if number == inner + 1 => at.wrapping_add(8) & !7,
-                _ if number == inner + 2 => last,
-                0 => 0x1800_0000 | noise & 0x007F_FFFF,
-                1 => noise,
-                _ => instruction(noise),
-            };
-            if at < window {
-                self.place_word(at, word);
-            }
-        }
-        (start, last)
-    }
-
-    /// Puts a 30h for this batch at the head of a ring, well-formed or not, with as many words before the tail or fewer.
-    fn place_start(&mut self, start: u32, last: u32) {
-        let length = self.random.pick(&[0, 0, 1, 1, 1, 4, 511]) << 12;
-        let bytes = length + PAGE;
-        let head = match self.random.below(8) {
-            0..=2 => bytes - 4 * (1 + self.random.below(5)),
-            // At the end of a page that is not the ring's last.
-            3 | 4 => PAGE - 4 * (1 + self.random.below(3)),
-            _ => self.random.below(bytes) & !3,
-        };
-        // As many as it has, fewer, or more, perhaps for a second one.
-        let left = self.random.pick(&[4, 8, 12, 12, 16, 20, 24, 24, 32]);
-        let tail = ((head + left) % bytes) & !7;
-        let wraps = self.random.pick(&[0, 0, 1, 0x7FF, 0x7FF]);
-        let base = match self.random.below(8) {
-            0 => (self.hub.window_bytes() - self.random.pick(&[PAGE, bytes])) & 0x03FF_F000,
-            _ => self.ring_start() & 0x03FF_F000,
-        };
-        self.register_write(0x203C, 4, length | 1);
-        self.register_write(0x2038, 4, base);
-        self.register_write(0x2034, 4, wraps << 21 | head);
-        self.register_write(0x2030, 4, tail);
-        let places = [0, 1, 2].map(|number| base + (head + 4 * number) % bytes);
-        let (page, others) = (places[0] / PAGE, places[2] / PAGE);
-        let entry = self.fetchable();
-        self.store_entry(page % TABLE_WORDS as u32, entry);
-        if others != page {
-            let entry = match self.random.below(8) {
-                0 | 1 => self.protected_entry(),
-                2..=4 => self.entry(),
-                _ => self.fetchable(),
-            };
-            self.store_entry(others % TABLE_WORDS as u32, entry);
-        }
-        let noise = if self.random.one_in(2) { self.random.word() & 0x007F_FFFF } else { 0 };
-        let high = if self.random.one_in(32) { 1 << (29 + self.random.below(3)) } else { 0 };
-        let protected = self.random.below(2);
-        // The third word alone may be refused, so that the form of the second is asked after or before.
-        let split = others != page && places[1] / PAGE == page;
-        let ill_formed = self.random.one_in(if split { 2 } else { 5 });
-        let (second, third) = match self.random.below(if split { 4 } else { 8 }) {
-            _ if !ill_formed => (start | protected, last),
-            0 => (start | 2 | protected, last),
-            1 => (start | 4 | protected, last),
-            2 => (start | 6 | protected, last),
-            3 => (start | protected, last | 1),
-            4 => (start | protected, last | 2),
-            5 => (start | protected, start.wrapping_sub(4 * (1 + self.random.below(3)))),
-            6 => (start | protected, start & !0xFFF),
-            _ => (self.random.word(), self.random.word()),
-        };
-        let words = [0x1800_0000 | noise | high, second, third];
-        for (place, word) in places.into_iter().zip(words) {
-            self.place_word(place, word);
-        }
-        if left >= 24 && self.random.one_in(2) {
-            for (number, word) in (3..).zip(words) {
-                self.place_word(base + (head + 4 * number) % bytes, word);
-            }
-        }
-    }
-
-    /// Something that may happen to an open batch, and a run.
-    fn go_on_in_batch(&mut self) {
-        let Some(batch) = self.hub.batch() else { return };
-        let ring = self.hub.ring();
-        let page = batch.position / PAGE % TABLE_WORDS as u32;
-        match self.random.below(20) {
-            // A pause.
-            0 | 1 => {
-                self.register_write(0x203C, 4, ring.length & !1);
-                self.run();
-                if !self.random.one_in(4) {
-                    self.register_write(0x203C, 4, ring.length | 1);
-                }
-            }
-            2 => self.write_ring_register(),
-            // Head or tail out of the ring, or the ring empty.
-            3 => self.register_write(0x2034, 4, ring.head & !0x001F_FFFF | ring.bytes() & 0x001F_FFFF),
-            4 => self.register_write(0x2030, 4, ring.bytes()),
-            5 => self.register_write(0x2030, 4, ring.head_offset()),
-            6 => self.register_write(0x2034, 4, ring.tail),
-            // Another entry for its page.
-            7 | 8 => {
-                let entry = if self.random.one_in(2) { self.entry() } else { self.protected_entry() };
-                self.store_entry(page, entry);
-            }
-            9 => {
-                let smram = self.random.word() as u8;
-                let lock = if self.random.one_in(2) { 0x02 } else { 0 };
-                self.set_smram(smram & !0x02 | 0x40 | lock);
-            }
-            // Another word there: unknown, a batch in the batch, or a user interrupt.
-            10..=12 => {
-                let word = self.random.pick(&[0x0080_0000, 0x1800_0000, 0x1800_0000, 0x1812_3456, 0x0100_0000]);
-                self.place_word(batch.position, word);
-            }
-            // Translation off or, where the table is in main memory, somewhere else.
-            13 | 14 => {
-                let before = self.hub.register(0x2020).unwrap_or(0);
-                let other = if self.table_in_memory() { self.table_base(page) | 1 } else { before & !1 };
-                let control = if self.random.one_in(4) { before & !1 } else { other };
-                self.register_write(0x2020, 4, control);
-                self.run();
-                self.register_write(0x2020, 4, before);
-            }
-            15 => self.set_window_size(),
-            16 => self.write_fence(),
-            17 if self.random.one_in(2) => {
-                self.reset_in_batch();
-            }
-            _ => {}
-        }
-        self.run();
-    }
-
-    /// A reset with a batch open, and then a ring again.
-    fn reset_in_batch(&mut self) {
-        if self.resets {
-            self.emit(Record::reset());
-            self.scene();
-            self.set_ring();
-        }
-    }
-
-    /// Goes to the end of an open batch, as far as its pages can be had.
-    fn leave_batch(&mut self) {
-        for _ in 0..4 {
-            let Some(batch) = self.hub.batch() else { return };
-            let page = batch.position / PAGE;
-            if page as usize >= TABLE_WORDS || batch.position >= self.hub.window_bytes() {
-                return self.reset_in_batch();
-            }
-            if !self.hub.ring().enabled() {
-                self.register_write(0x203C, 4, self.hub.ring().length | 1);
-            }
-            if self.hub.fetch_address(batch.position).is_err() {
-                let entry = self.fetchable();
-                self.store_entry(page, entry);
-            }
-            self.place_word(batch.position, 0);
-            self.emit(Record::run(u32::MAX));
-        }
     }
 
     fn access_interrupts(&mut self) {

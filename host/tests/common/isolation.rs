@@ -9,8 +9,7 @@
 //! document 02 has demand 3 read "table words in unprotected memory": these are bytes of unprotected
 //! memory, which is equal at the lock. Request 11: "Demand 3 counts this memory", the display cache, "as
 //! unprotected, equal at the start"; it is equal at the end, too. Request 8: "demand 3 stands", with any value in PAMR
-//! and FDHC at the lock and with any written later, since the lock holds neither. Request 1: "Demand 3's state gains the
-//! open batch", so the prefix of many a trial leaves one open.
+//! and FDHC at the lock and with any written later, since the lock holds neither.
 
 use super::compare::{range, undo};
 use super::generate::{board, pristine_display, pristine_memory, table, Generator};
@@ -49,10 +48,6 @@ pub struct Tally {
     pub shadow: [u64; 3],
     /// Writes that changed PAMR and FDHC.
     pub steered: [u64; 2],
-    /// Trials with a batch open at the lock, by board.
-    pub open_batches: [u64; Board::ALL.len()],
-    /// Batches that were opened, runs that went on in one, and those that were refused there with code 6.
-    pub batches: [u64; 3],
     /// Parser runs that completed a step.
     pub runs: u64,
 }
@@ -210,9 +205,6 @@ impl Trial {
         let mut generator = Generator::new(random, board, scratch, &mut table, scratch_display);
         generator.hub.observer().note_reads = true;
         generator.fill(before);
-        if generator.random.one_in(3) {
-            generator.open_batch();
-        }
         if !generator.hub.smram().locked() {
             let smram = generator.random.word() as u8;
             generator.set_smram(smram | 0x02);
@@ -220,7 +212,6 @@ impl Trial {
 
         let smram = generator.hub.smram();
         assert!(smram.locked(), "nothing hides device 0");
-        tally.open_batches[board as usize] += u64::from(generator.hub.batch().is_some());
         let protected = protected_ranges(smram, tom);
         let copy = |bytes: &Range<usize>| generator.hub.memory()[bytes.clone()].to_vec();
         let at_lock: Vec<Vec<u8>> = protected.iter().map(copy).collect();
@@ -252,10 +243,6 @@ impl Trial {
         let changed = shadow.changed_when_locked().into_iter().zip(before.changed_when_locked());
         for (count, (changed, before)) in tally.steered.iter_mut().zip(changed) {
             *count += changed - before;
-        }
-        let (told, before) = (watch.coverage.batches.told(), prefix_coverage.batches.told());
-        for (count, (told, before)) in tally.batches.iter_mut().zip(told.into_iter().zip(before)) {
-            *count += told - before;
         }
         let (shown, before) = (watch.coverage.places.shown(), prefix_coverage.places.shown());
         for (count, (shown, before)) in tally.shown_offsets.iter_mut().zip(shown.into_iter().zip(before)) {

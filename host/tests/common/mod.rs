@@ -2,7 +2,6 @@
 //! and the reference agree.
 #![allow(dead_code)]
 
-pub mod batches;
 pub mod compare;
 pub mod display;
 pub mod forbidden;
@@ -16,11 +15,10 @@ pub mod shadow;
 pub mod top;
 pub mod words;
 
-use batches::{Batches, Told};
 use display::Display;
 use forbidden::Forbidden;
 use mitrophel::reference::Smram;
-use mitrophel::reference::{Batch, Observer, Rule, TableWord, Touch};
+use mitrophel::reference::{Observer, Rule, TableWord, Touch};
 use mitrophel::{call, record, reference, Answer, Board, Kind, Record, Refusal, Target};
 use places::Places;
 use power::Power;
@@ -122,9 +120,6 @@ pub struct Watch {
     pub words: Words,
     /// Whether a reset has opened a locked board.
     reopened: bool,
-    /// What was said of batches, and whether a run has found the open one paused.
-    told: Told,
-    was_paused: bool,
 }
 
 impl Observer for Watch {
@@ -150,21 +145,10 @@ impl Observer for Watch {
     fn looked_up(&mut self, entry: u32) {
         self.entry = Some(entry);
         self.display_touch = None;
-        self.told.looked_up();
-    }
-
-    fn batch_opened(&mut self, batch: Batch) {
-        self.told.batch_opened(batch);
-        self.was_paused = false;
-    }
-
-    fn batch_closed(&mut self) {
-        self.told.batch_closed();
     }
 
     fn display_touched(&mut self, touch: Touch) {
         self.display_touch = Some(touch);
-        self.told.display_touched();
         if touch.write {
             self.display_writes.push(touch);
         }
@@ -191,12 +175,6 @@ impl Observer for Watch {
             self.coverage.places.note(self.board, &self.words.meets, by_word, record, answer);
         }
         self.coverage.power.note(self.board, self.words.meets.pm_cs, record, answer);
-        let (word_refused, was_paused) = (self.words.word_refused(), self.was_paused);
-        let meets = &self.words.meets;
-        let batch = batches::Met { meets, told: &self.told, word_refused, was_paused, record, answer };
-        self.coverage.batches.note(self.board, &batch);
-        self.was_paused |= record.kind() == Some(Kind::Run) && !meets.ring.enabled();
-        self.told.answered(record, answer);
         self.words.answered();
         self.coverage.kinds[usize::from(record.kind).min(10) % 10] += 1;
         self.coverage.codes[self.board][usize::from(answer.code)] += 1;
@@ -205,8 +183,7 @@ impl Observer for Watch {
 }
 
 /// How often each kind, code, target, rule and event was seen, each place of a refusal, each write of a power state, and
-/// each thing that can be met of a display cache, of entries that are forbidden, of shadow memory and the hole, and of
-/// batches.
+/// each thing that can be met of a display cache, of entries that are forbidden, and of shadow memory and the hole.
 #[derive(Clone, Default)]
 pub struct Coverage {
     /// By kind; number 0 counts the records of no kind.
@@ -221,7 +198,6 @@ pub struct Coverage {
     pub display: Display,
     pub forbidden: Forbidden,
     pub shadow: Shadow,
-    pub batches: Batches,
     /// Counted by itself: only the largest memory can be asked for all of it.
     pub top: Top,
 }
@@ -235,7 +211,7 @@ impl Coverage {
         let codes = self.codes.iter().flatten();
         let counts = self.kinds.iter().chain(codes).chain(&self.targets).chain(&self.rules).chain(&self.events);
         let counts = counts.chain(self.places.counts()).chain(self.power.counts()).chain(self.display.counts());
-        counts.chain(self.forbidden.counts()).chain(self.shadow.counts()).chain(self.batches.counts())
+        counts.chain(self.forbidden.counts()).chain(self.shadow.counts())
     }
 
     fn counts_mut(&mut self) -> impl Iterator<Item = &mut u64> {
@@ -249,7 +225,6 @@ impl Coverage {
             .chain(self.display.counts_mut())
             .chain(self.forbidden.counts_mut())
             .chain(self.shadow.counts_mut())
-            .chain(self.batches.counts_mut())
     }
 
     /// What each of the counts is of; none for what cannot be.
@@ -264,7 +239,7 @@ impl Coverage {
         names.extend(Rule::ALL.iter().map(Rule::to_string).map(Some));
         names.extend(Event::ALL.iter().map(Event::to_string).map(Some));
         let names = names.into_iter().chain(Places::names()).chain(Power::names().into_iter().map(Some));
-        names.chain(Display::names()).chain(Forbidden::names()).chain(Shadow::names()).chain(Batches::names()).collect()
+        names.chain(Display::names()).chain(Forbidden::names()).chain(Shadow::names()).collect()
     }
 
     /// Each count with its name.

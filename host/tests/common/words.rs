@@ -1,7 +1,7 @@
 //! What a list does with the words of a translation table in main memory (request 10 of document 02).
 
 use super::Coverage;
-use mitrophel::reference::{Batch, Ring, Rule, TableWord, Touch, WordUse};
+use mitrophel::reference::{Rule, TableWord, Touch, WordUse};
 use mitrophel::Refusal;
 use std::collections::HashMap;
 use std::fmt;
@@ -97,9 +97,6 @@ pub struct Meets {
     /// Whether type 01 reaches a display cache, and 3000h to 3002h, which are 0 where they are not listed.
     pub display_on: bool,
     pub display_registers: [u8; 3],
-    /// The ring's registers and the open batch.
-    pub ring: Ring,
-    pub batch: Option<Batch>,
 }
 
 /// Counts the [`Event`]s of one list.
