@@ -1,7 +1,6 @@
 // The one function that the archive exports, under its name in C.
 #![tactic(auto)]
 
-ghost use Rattle.std.specs.Prelude.{◌≡◌};
 ghost use Rattle.gmch.specs.Machine.{lent};
 ghost use Rattle.desk.specs.Calls.{Calls};
 

@@ -16,26 +16,26 @@ use Rattle.gmch.proofs.Words.{length-bytes_of}
 
 -- ---- a part of a list
 
-pub get_d_part : (l : List ℕ) (at n i : ℕ) → i < n → get_or (take n (drop at l)) i 0 ≡ get_or l (at + i) 0
-get_d_part l at n i h = get_or-take n (drop at l) i 0 h ∙ get_or-drop at l i 0
+pub get_or-part : (l : List ℕ) (at n i : ℕ) → i < n → get_or (take n (drop at l)) i 0 ≡ get_or l (at + i) 0
+get_or-part l at n i h = get_or-take n (drop at l) i 0 h ∙ get_or-drop at l i 0
 
 pub load_le-part : (l : List ℕ) (at n w i : ℕ) → i + w ≤ n → load_le w i (take n (drop at l)) ≡ load_le w (at + i) l
 unfolding load_le
 load_le-part l at n zero i h = refl
 load_le-part l at n (suc w) i h =
     let e : at + (i + w) ≡ at + i + w = omega arith in
-    rw (load_le-part l at n w i (omega arith), get_d_part l at n (i + w) (omega arith), e) refl
+    rw (load_le-part l at n w i (omega arith), get_or-part l at n (i + w) (omega arith), e) refl
 
 -- a record's fields, from the bytes in front of which at others stand
 pub record_part : (l : List ℕ) (at : ℕ) → record_of (take 16 (drop at l))
     ≡ record { kind = get_or l at 0; width = get_or l (at + 1) 0; flags = get_or l (at + 2) 0; zero = get_or l (at + 3) 0; address = load_le 4 (at + 4) l; value = load_le 4 (at + 8) l; rest = load_le 4 (at + 12) l }
 record_part l at =
     rw (
-      get_d_part l at 16 0 (omega arith),
+      get_or-part l at 16 0 (omega arith),
       add-zero at,
-      get_d_part l at 16 1 (omega arith),
-      get_d_part l at 16 2 (omega arith),
-      get_d_part l at 16 3 (omega arith),
+      get_or-part l at 16 1 (omega arith),
+      get_or-part l at 16 2 (omega arith),
+      get_or-part l at 16 3 (omega arith),
       load_le-part l at 16 4 4 (omega arith),
       load_le-part l at 16 4 8 (omega arith),
       load_le-part l at 16 4 12 (omega arith),

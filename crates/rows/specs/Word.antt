@@ -20,7 +20,7 @@ unfoldable pub row_bits : ℕ → Bits
 row_bits w =
     record { writable = foldl (joined_by (λ (r : Row). r.writable) w) 0 rows; clearing = foldl (joined_by (λ (r : Row). r.clearing) w) 0 rows }
 
--- the bits of the write_once registers 2Ch and 2Eh of device 1 that have been written
+-- the bits of the write-once registers 2Ch and 2Eh of device 1 that have been written
 unfoldable pub fixed_bits : Bool → Bool → ℕ → ℕ
 fixed_bits c e w = pick (eqb w 0x4B) (pick c (pick e 0xFFFFFFFF 0xFFFF) (pick e 0xFFFF0000 0)) 0
 

@@ -300,7 +300,7 @@ fn row_bits(w: u32) -> Bits
     }
 }
 
-// The bits of the write_once registers 2Ch and 2Eh of device 1 that have been written.
+// The bits of the write-once registers 2Ch and 2Eh of device 1 that have been written.
 fn fixed_bits(w: u32, wrote2c: bool, wrote2e: bool) -> u32
     ensures { result ≡ fixed_bits wrote2c wrote2e w }
 {

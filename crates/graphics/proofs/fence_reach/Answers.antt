@@ -1,4 +1,4 @@
--- The fence matches, so the offset is at or past its start; it is well_formed_lem, so its pitch has a meaning.
+-- The fence matches, so the offset is at or past its start; it is well-formed, so its pitch has a meaning.
 use native.Mathlib.Omega.{arith}
 use mathlib.Core.Path.{sym, ap, ◌∙◌}
 use Rattle.gmch.specs.Fence.{fence_reach, pitch_code}
