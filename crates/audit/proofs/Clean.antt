@@ -1,11 +1,7 @@
 -- While the lock is set, no forbidden entry comes into the private table: by induction over the records, each of which stores one
 -- entry at most, that code 16 has let pass.
-use Prim.Native.Nat.{ℕ, ◌/◌, ◌<◌}
-use mathlib.Core.Path.{◌≡◌, refl, sym, ◌∙◌}
-use mathlib.Core.List.{List, [], ◌∷◌}
-use mathlib.Core.Bool.{true, false, false≢true}
-use lib.ListN.{get_or}
-use borrow.Author.Tests.{lt-leb, eq-eqb, not-false}
+use Rattle.std.proofs.Common.{Ok, ℕ, ◌/◌, ◌<◌, ◌≡◌, refl, sym, ◌∙◌, List, [], ◌∷◌, true, false, get_or, eq-eqb}
+use Rattle.std.proofs.lemmas.Bool.{false≢true, lt-leb, not-false}
 use Rattle.gmch.specs.Choice.{◌and◌}
 use Rattle.gmch.specs.Records.{record_of, access_of, well_formed}
 use Rattle.gmch.specs.Smram.{lock_bit}
@@ -22,7 +18,6 @@ use Rattle.gmch.specs.declared.Map.{Map}
 use Rattle.gmch.specs.declared.State.{State}
 use Rattle.gmch.specs.declared.Access.{Access}
 use Rattle.gmch.specs.declared.Record.{Record}
-use Rattle.gmch.specs.declared.Look.TheVariants.{Word}
 use Rattle.gmch.specs.declared.Target.{Target}
 use Rattle.gmch.specs.declared.Target.TheVariants.{Refused, Memory, Cache, Register, Hub, HubError, Vga, Mapped, Entry, CacheRegister}
 use Rattle.gmch.proofs.Choice.{choices, pick_elim}
@@ -105,7 +100,7 @@ replay_still b s x (r ∷ rs) n q =
     }
 
 -- on kinds 0 and 1 a lookup reads the private table
-private_look : (b : Board) (x : Machine) (i : ℕ) → b.kind < 2 → look_of b x i ≡ Word (get_or x.table i 0)
+private_look : (b : Board) (x : Machine) (i : ℕ) → b.kind < 2 → look_of b x i ≡ Ok (get_or x.table i 0)
 unfolding look_in map_from
 private_look b x i k = simp (lt-leb 2 b.kind k, choices)
 
@@ -114,6 +109,6 @@ stays_clean b x rs kind lock n clean i entry e =
     let s = x.state in
     let y = (replay b x rs).after in
     let q = replay_still b s x rs n record { locked = record { upper = refl; lock = lock }; free = λ j. clean j _ (private_look b x j kind) } in
-    let k : Word (get_or y.table i 0) ≡ Word entry = sym (private_look b y i kind) ∙ e in
+    let k : Ok (get_or y.table i 0) ≡ Ok entry = sym (private_look b y i kind) ∙ e in
     let same : get_or y.table i 0 ≡ entry = cc in
     rw (← same) (free_still b s y.state y.table (sym q.locked.upper) q.free i)

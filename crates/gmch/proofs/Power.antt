@@ -1,18 +1,10 @@
 -- The power state, bits 1:0 of device 1's E0h (request 3 of document 02): what a write leaves of it, and that from a cold start
 -- it is 00 or 11 throughout.
-use mathlib.Core.Path.{◌≡◌, refl, ap, ◌∙◌}
-use mathlib.Core.Logic.{◌≢◌, inl}
-use mathlib.Core.List.{List, [], ◌∷◌}
-use mathlib.Core.Bool.{false}
-use Prim.Native.Nat.{ℕ, suc, ◌+◌, ◌-◌, ◌*◌, ◌/◌, ◌%◌, ◌^◌, ◌≤◌, ◌<◌}
-use native.Mathlib.Nat.{mod-lt}
-use native.Mathlib.Omega.{arith}
-use borrow.Author.Tests.{ne_eqb, le-ltb}
-use lib.Bits.{and_zero_r, and_mask, and_high, or_shifted}
-use lib.Dec.{eqb}
-use lib.Pow.{pow_pos, low, mod-mod-pow}
-use lib.ListN.{length}
-use lib.Seq.{get_or-set_same}
+use Rattle.std.proofs.Common.{◌≡◌, refl, ap, ◌∙◌, ◌≢◌, inl, List, [], ◌∷◌, false, ℕ, suc, ◌+◌, ◌-◌, ◌*◌, ◌/◌, ◌%◌, ◌^◌, ◌≤◌, ◌<◌, mod-lt, arith, ne_eqb, le-ltb, eqb, pow_pos, length, get_or-set_same}
+use Rattle.std.proofs.Math.Pow.{low, mod-mod-pow}
+use Rattle.std.proofs.lemmas.Nat.{and_mask, or_shifted}
+use Rattle.std.proofs.lemmas.Nat.Bits.{and_high}
+use Rattle.std.specs.Int.Bits.{and_zero_r}
 use Rattle.gmch.specs.Choice.{pick, ◌and◌, ◌or◌}
 use Rattle.gmch.specs.Words.{within}
 use Rattle.gmch.specs.Records.{record_of}

@@ -1,11 +1,8 @@
 -- Code 16: it bars the entries that code 6 refuses at use, and passes by what ends in protected memory.
-use Prim.Native.Nat.{ℕ, zero, suc, ◌/◌, ◌%◌, ◌<◌}
-use mathlib.Core.Path.{◌≡◌, refl, ap, ◌∙◌}
-use mathlib.Core.Bool.{Bool, true, false, not, false≢true}
-use lib.Dec.{leb, eqb}
-use borrow.Author.Tests.{eqb-true, eqb-false, eq-eqb, ne_eqb, leb-true}
-use native.Mathlib.Omega.{arith}
+use Rattle.std.proofs.Common.{Ok, ℕ, zero, suc, ◌/◌, ◌%◌, ◌<◌, ◌≡◌, refl, ap, ◌∙◌, Bool, true, false, not, leb, eqb, eqb-true, eq-eqb, ne_eqb, leb-true, arith}
+use Rattle.std.proofs.lemmas.Bool.{false≢true, eqb-false, both_ways, not-true}
 use Rattle.gmch.specs.Choice.{◌and◌, ◌or◌}
+use Rattle.gmch.specs.Look.{Reach, denied}
 use Rattle.gmch.specs.Map.{Tom, protected_at}
 use Rattle.gmch.specs.Table.{page_of, foreign, foreign_reach, entry_reach, forbidden}
 use Rattle.gmch.specs.Access.{is_table_word, barred, settled, location_of}
@@ -13,11 +10,12 @@ use Rattle.gmch.specs.Isolation.{is_protected}
 use Rattle.gmch.specs.declared.Map.{Map}
 use Rattle.gmch.specs.declared.Access.{Access}
 use Rattle.gmch.specs.declared.Place.{Place}
-use Rattle.gmch.specs.declared.Place.TheVariants.{InMain, InCache, NoPlace}
+use Rattle.gmch.specs.declared.Place.TheVariants.{InMain, InCache}
 use Rattle.gmch.specs.declared.Target.{Target}
 use Rattle.gmch.specs.declared.Target.TheVariants.{Refused}
-use Rattle.gmch.proofs.Choice.{choices, pick_elim, clash, and_left, and_right}
+use Rattle.gmch.proofs.Choice.{choices, pick_elim, and_left, and_right}
 use Rattle.gmch.proofs.Protect.{free_above}
+use Rattle.gmch.proofs.Fence.{same_refusal}
 use Rattle.gmch.proofs.Routing.{Safe, refused_safe, memory_safe, cache_safe, register_safe, hub_safe, error_safe, vga_safe, mapped_safe, entry_safe, cache_register_safe}
 
 -- ---- what is forbidden
@@ -36,43 +34,39 @@ main_type entry = by (entry / 2 % 4) (omega arith)
 
 module _ (m : Map) (z : Tom m.tom) (entry o : ℕ) where
   -- refused with 6 at use
-  pub forbidden_six : forbidden m entry ≡ true → entry_reach m entry o ≡ NoPlace 6 o
+  pub forbidden_six : forbidden m entry ≡ true → entry_reach m entry o ≡ denied 6 o
   unfolding forbidden entry_reach
   forbidden_six f =
       let valid : entry % 2 ≡ 1 = eqb-true _ _ (and_left _ _ f) in
       let hidden = and_right _ _ (and_right _ _ f) in
-      let main : foreign entry ≡ false = not_true _ (rw (main_type entry) at (and_left _ _ (and_right _ _ f))) in
+      let main : foreign entry ≡ false = not-true _ (rw (main_type entry) at (and_left _ _ (and_right _ _ f))) in
       simp (ne_eqb (entry % 2) 0 (λ e. omega arith), main, below hidden, hidden, choices)
     where
-      not_true : (b : Bool) → not b ≡ true → b ≡ false
-      not_true true e = absurd (false≢true e)
-      not_true false e = refl
-
       below : protected_at m.tom m.smram (page_of entry) ≡ true → leb m.tom (page_of entry) ≡ false
       below e = by (leb m.tom (page_of entry)) refl
         where
           by : (t : Bool) → leb m.tom (page_of entry) ≡ t → t ≡ false
           by false h = refl
-          by true h = clash _ e (free_above m.tom m.smram (page_of entry) z (leb-true _ _ h))
+          by true h = absurd (both_ways _ (free_above m.tom m.smram (page_of entry) z (leb-true _ _ h)) e)
 
   -- and no others are
-  pub six_forbidden : entry_reach m entry o ≡ NoPlace 6 o → forbidden m entry ≡ true
+  pub six_forbidden : entry_reach m entry o ≡ denied 6 o → forbidden m entry ≡ true
   unfolding forbidden entry_reach foreign_reach
   six_forbidden =
       pick_elim P _ (λ _ e. other 4 (λ q. omega arith) e) (λ valid. pick_elim P _ (λ _.
       pick_elim P _ (λ _. pick_elim P _ (λ _ e. other 7 (λ q. omega arith) e) (λ _ e. cached e)) (λ _ e. other 5 (λ q. omega arith) e)) (λ main.
       pick_elim P _ (λ _ e. other 7 (λ q. omega arith) e) (λ _. pick_elim P _ (λ hidden _. so valid main hidden) (λ _ e. reached e))))
     where
-      P : Place → Type 0
-      P r = r ≡ NoPlace 6 o → forbidden m entry ≡ true
+      P : Reach Place → Type 0
+      P r = r ≡ denied 6 o → forbidden m entry ≡ true
 
-      other : (c : ℕ) → (c ≡ 6 → ⊥) → NoPlace c o ≡ NoPlace 6 o → forbidden m entry ≡ true
-      other c n e = absurd (n cc)
+      other : (c : ℕ) → (c ≡ 6 → ⊥) → denied {A = Place} c o ≡ denied 6 o → forbidden m entry ≡ true
+      other c n e = absurd (n (same_refusal e).0)
 
-      cached : {p : ℕ} → InCache p ≡ NoPlace 6 o → forbidden m entry ≡ true
+      cached : {p : ℕ} → Ok (InCache p) ≡ denied 6 o → forbidden m entry ≡ true
       cached e = let q : ◌≡◌ {A = ℕ} 0 1 = cc in absurd (omega arith)
 
-      reached : {p : ℕ} → InMain p ≡ NoPlace 6 o → forbidden m entry ≡ true
+      reached : {p : ℕ} → Ok (InMain p) ≡ denied 6 o → forbidden m entry ≡ true
       reached e = let q : ◌≡◌ {A = ℕ} 0 1 = cc in absurd (omega arith)
 
       so : eqb (entry % 2) 0 ≡ false → foreign entry ≡ false → protected_at m.tom m.smram (page_of entry) ≡ true → forbidden m entry ≡ true
@@ -116,7 +110,7 @@ module _ (m : Map) (a : Access) (v : ℕ) (t : Target) where
       no_word error_safe e = refl
       no_word vga_safe e = refl
       no_word mapped_safe e = absurd (false≢true e)
-      no_word (entry_safe p l h n) e = clash (protected_at tom smram p) e n
+      no_word (entry_safe p l h n) e = absurd (both_ways (protected_at tom smram p) n e)
       no_word cache_register_safe e = refl
 
 -- the same of a target that is known

@@ -1,10 +1,11 @@
 -- Document 01, 'Records and answers', 'Codes' and 'Where an address goes': one access, where it ends and what it does there.
 -- Request 9 of document 02: code 16. Request 11: the display cache and its registers.
-use Rattle.std.specs.Prelude.{ℕ, List, Bool, true, false, not, leb, eqb}
+use Rattle.std.specs.Prelude.{ℕ, List, Bool, true, false, not, leb, eqb, Ok, Err}
 use Rattle.gmch.specs.Choice.{pick, ◌and◌}
 use Rattle.gmch.specs.Words.{load_le, store_le}
 use Rattle.gmch.specs.Records.{access_of, fits_word, reply}
 use Rattle.gmch.specs.Smram.{lock_bit}
+use Rattle.gmch.specs.Look.{Look, Reach}
 use Rattle.gmch.specs.Config.{with_dram, with_error, port_target, register_value, register_written}
 use Rattle.gmch.specs.Machine.{Machine, with_state, with_table, with_main, with_cache}
 use Rattle.gmch.specs.Map.{map_of, Shadow, shadow_in, route_of, master_target}
@@ -15,11 +16,8 @@ use Rattle.gmch.specs.declared.Map.{Map}
 use Rattle.gmch.specs.declared.Record.{Record}
 use Rattle.gmch.specs.declared.Access.{Access}
 use Rattle.gmch.specs.declared.Answer.{Answer}
-use Rattle.gmch.specs.declared.Look.{Look}
-use Rattle.gmch.specs.declared.Reach.{Reach}
-use Rattle.gmch.specs.declared.Reach.TheVariants.{At, Denied}
 use Rattle.gmch.specs.declared.Place.{Place}
-use Rattle.gmch.specs.declared.Place.TheVariants.{InMain, InCache, NoPlace}
+use Rattle.gmch.specs.declared.Place.TheVariants.{InMain, InCache}
 use Rattle.gmch.specs.declared.Target.{Target}
 use Rattle.gmch.specs.declared.Target.TheVariants.{Refused, Memory, Cache, Register, Hub, HubError, Vga, Mapped, Entry, CacheRegister}
 use Rattle.gmch.specs.declared.Route.{Route}
@@ -27,15 +25,15 @@ use Rattle.gmch.specs.declared.Route.TheVariants.{To, Registers, Window}
 
 -- ---- where it ends. Nothing here looks at the record's data
 
-abbrev pub reached : Place → Target
-reached (InMain p) = Memory p
-reached (InCache p) = Cache p
-reached (NoPlace c o) = Refused c o
+abbrev pub reached : Reach Place → Target
+reached (Ok (InMain p)) = Memory p
+reached (Ok (InCache p)) = Cache p
+reached (Err r) = Refused r.code r.offset
 
 -- an entry of a table in main memory: codes 7, 6
-abbrev pub entry_target : ℕ → Reach → Target
-entry_target o (At p) = Entry o p
-entry_target o (Denied c n) = Refused c n
+abbrev pub entry_target : ℕ → Reach ℕ → Target
+entry_target o (Ok p) = Entry o p
+entry_target o (Err r) = Refused r.code r.offset
 
 -- after routing: 10, then a table word's 7, 6; or 9, 3, 4, 5, 7, 6, with a table word's 7, 6 after 3
 unfoldable pub resolved : Map → List ℕ → ℕ → (ℕ → Look) → Access → Route → Target

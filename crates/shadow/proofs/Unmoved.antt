@@ -1,15 +1,10 @@
 -- Rules 3 and 4 alone go by PAMR and FDHC, and neither reaches a protected byte, whatever the two hold.
-use Prim.Native.Nat.{ℕ, ◌≤◌, ◌<◌}
-use mathlib.Core.Path.{◌≡◌, refl, sym, ap, ◌∙◌}
-use mathlib.Core.List.{List}
-use mathlib.Core.Bool.{Bool, true, false}
-use lib.ListN.{get_or, set}
-use lib.Seq.{get_or-set_other}
-use borrow.Author.Tests.{ltb-true, ltb-false}
-use native.Mathlib.Omega.{arith}
+use Rattle.std.proofs.Common.{ℕ, ◌≤◌, ◌<◌, ◌≡◌, refl, sym, ap, ◌∙◌, List, Bool, true, false, get_or, set, get_or-set_other, ltb-true, ltb-false, arith}
+use Rattle.std.proofs.lemmas.Bool.{both_ways}
 use Rattle.gmch.specs.Choice.{◌and◌}
 use Rattle.gmch.specs.Records.{well_formed, is_management}
 use Rattle.gmch.specs.Smram.{usmm}
+use Rattle.gmch.specs.Look.{Look}
 use Rattle.gmch.specs.Config.{smram_of}
 use Rattle.gmch.specs.Machine.{Machine}
 use Rattle.gmch.specs.Map.{Tom, map_from, map_of, Shadow, usable, shadow_target, main_target, route_of, master_target, protected_at}
@@ -18,11 +13,10 @@ use Rattle.gmch.specs.Isolation.{is_protected, lands}
 use Rattle.gmch.specs.declared.Board.{Board}
 use Rattle.gmch.specs.declared.Map.{Map}
 use Rattle.gmch.specs.declared.Access.{Access}
-use Rattle.gmch.specs.declared.Look.{Look}
 use Rattle.gmch.specs.declared.Record.{Record}
 use Rattle.gmch.specs.declared.Route.{Route}
 use Rattle.gmch.specs.declared.Target.{Target}
-use Rattle.gmch.proofs.Choice.{pick_elim, pick_elim₂, clash}
+use Rattle.gmch.proofs.Choice.{pick_elim, pick_elim₂}
 use Rattle.gmch.proofs.Protect.{segment_fits, free_high}
 use Rattle.shadow.specs.Unmoved.{steered, ends_protected, ProtectionUnmoved}
 
@@ -43,7 +37,7 @@ alike_hits m (free e e') = e' ∙ sym e
 
 alike_place : (m : Map) {t t' : Target} → Alike m t t' → hits m t ≡ true → t' ≡ t
 alike_place m same h = refl
-alike_place m (free e e') h = clash _ h e
+alike_place m (free e e') h = absurd (both_ways _ e h)
 
 module _ (m : Map) (z : Tom m.tom) where
   Free : Target → Type 0
