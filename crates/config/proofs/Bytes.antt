@@ -1,11 +1,6 @@
 -- Bytes of numbers: one turn of a write and of a read of n bytes, for any n.
-use mathlib.Core.Path.{◌≡◌, refl}
-use mathlib.Core.List.{List}
-use Prim.Native.Nat.{ℕ, zero, suc, ◌+◌, ◌-◌, ◌*◌, ◌/◌, ◌%◌, ◌^◌, ◌<◌, ◌≤◌}
-use native.Mathlib.Nat.{add_assoc, mul-suc, pow-suc, pow-le-pow_right}
-use native.Mathlib.Omega.{arith}
-use lib.ListN.{get_or, set}
-use lib.Pow.{pow-add}
+use Rattle.std.proofs.Common.{◌≡◌, refl, List, ℕ, zero, suc, ◌+◌, ◌-◌, ◌*◌, ◌/◌, ◌%◌, ◌^◌, ◌<◌, ◌≤◌, add_assoc, mul-suc, pow-suc, arith, get_or, set, pow-add}
+use Rattle.std.proofs.Math.Nat.{pow-le-pow_right}
 use Rattle.gmch.specs.Config.{read_byte, config_read}
 use Rattle.config.specs.Word.{new_in, written_in}
 use Rattle.rows.specs.declared.Bits.{Bits}

@@ -1,5 +1,6 @@
 // Reads and writes of configuration bytes. A byte is named by x = device * 256 + register, and its callers
-// show that it is below 512. The devices' bytes are lent: by value they would be copied.
+// show that it is below 512. The devices' bytes are lent: by value they would be copied. They stay two parameters, as `config_read` of the
+// definitions has them, and no State: `vectors` reads devices that belong to none.
 ghost use Rattle.std.specs.Prelude.{◌≡◌, ◌+◌, ◌%◌, ◌<◌, ◌≤◌};
 ghost use Rattle.gmch.specs.Smram.{smram_written};
 ghost use Rattle.gmch.specs.Config.{effective, touches, read_byte, config_read};
@@ -43,27 +44,23 @@ pub fn effective(x: u32, old: u8, v: u32) -> u32
 {
     if x == 0x1E0 {
         if (v % 4 == 1) | (v % 4 == 2) {
-            return v / 4 * 4 + (old % 4) as u32;
+            return v / 4 * 4 + u32::from(old % 4);
         }
     }
     v
 }
 
 // Writes the n low bytes of v, all of which act, at x, in the bytes of x's device. b is what a write may change of the
-// aligned word of x.
+// aligned word of x. By quotients of v, as the definition has them: `to_le_bytes` would be counted beside the place.
 pub fn write(dev: &mut [u8; 256], b: Bits, x: u32, n: u32, v: u32)
     requires { x % 4 + n ≤ 4 }
     ensures { dev.new ≡ written_in b x (x % 256) n v dev.old }
 {
     let mut rest = v;
-    let mut i: u32 = 0;
-    while i < n {
+    for i in 0..n {
         let at = (x % 256 + i) as usize;
-        let old = dev[at];
-        let new = new_byte(b, x + i, old, (rest % 256) as u8);
-        dev[at] = new;
-        rest = rest / 256;
-        i = i + 1;
+        dev[at] = new_byte(b, x + i, dev[at], (rest % 256) as u8);
+        rest /= 256;
     }
 }
 
@@ -96,10 +93,8 @@ pub fn config_read<'a>(dev0: &'a [u8; 256], dev1: &'a [u8; 256], x: u32, n: u32)
     ensures { result ≡ config_read dev0.now dev1.now x n }
 {
     let mut v: u32 = 0;
-    let mut i = n;
-    while 0 < i {
-        i = i - 1;
-        v = read_byte(dev0, dev1, x + i) as u32 + 256 * v;
+    for i in (0..n).rev() {
+        v = u32::from(read_byte(dev0, dev1, x + i)) + 256 * v;
     }
     v
 }

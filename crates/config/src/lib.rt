@@ -14,22 +14,17 @@ pub mod access;
 fn cold_dram(board: u32) -> [u32; 3]
     ensures { result ≡ cold_dram board }
 {
-    let mut dram = [0u32; 3];
     if board % 2 == 1 {
-        dram[1] = 0x17;
-        dram[2] = 0x08;
-        return dram;
+        [0, 0x17, 0x08]
+    } else {
+        [0; 3]
     }
-    dram
 }
 
-// The state at a cold start.
+// The state at a cold start. The kind stays a number and no enum: the contract speaks of every board.
 pub fn cold_start(board: u32) -> State
     ensures { result ≡ cold_start board }
 {
-    let dev0 = rows::cold_bytes(board, 0);
-    let dev1 = rows::cold_bytes(board, 1);
-    let fences = [0u32; 8];
     let regs = Regs {
         control: 0,
         tail: 0,
@@ -42,12 +37,12 @@ pub fn cold_start(board: u32) -> State
     };
     State {
         cf8: 0,
-        dev0: dev0,
-        dev1: dev1,
+        dev0: rows::cold_bytes(board, 0),
+        dev1: rows::cold_bytes(board, 1),
         wrote2c: false,
         wrote2e: false,
-        fences: fences,
-        regs: regs,
+        fences: [0; 8],
+        regs,
         dram: cold_dram(board),
     }
 }

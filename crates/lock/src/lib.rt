@@ -2,14 +2,12 @@
 #![tactic(auto)]
 
 ghost use Rattle.std.specs.Prelude.{◌≡◌};
-ghost use Rattle.gmch.specs.Map.{Tom};
 ghost use Rattle.gmch.specs.Access.{barred};
 
 use gmch::Map;
 
-// With the lock set, a write of `v` may not store its entry. The host's call shows the length of memory.
+// With the lock set, a write of `v` may not store its entry.
 pub fn barred(m: Map, v: u32) -> bool
-    requires { Tom m.tom }
     ensures { result ≡ barred m v }
 {
     if m.smram / 2 % 2 == 0 {

@@ -1,10 +1,10 @@
 // The memory-mapped registers: the accesses that fit them, their values, what writes leave, and the interrupt line.
 #![tactic(auto)]
 
-ghost use Rattle.std.specs.Prelude.{◌≡◌, true, ◌<◌, length};
+ghost use Rattle.std.specs.Prelude.{◌≡◌, true, ◌<◌};
 ghost use Rattle.gmch.specs.Mapped.{listed_word, listed_half, listed_byte, misfit, is_entry, entry_number, is_fence, fence_number, regs_value, mapped_value, regs_written, mapped_written, stored, table_written, dram_value, dram_written, line_of};
 
-use gmch::{Regs, State};
+use gmch::{Entries, Regs, State};
 use words::within;
 
 // ---- the list
@@ -24,14 +24,14 @@ pub fn entry_number(o: u32) -> usize
     ((o - 0x10000) / 4) as usize
 }
 
-// `o` is in a fence, FENCE, 2000h-201Fh.
+// `o` is in a fence, FENCE, 2000h-201Fh. This and `is_entry` are one function already, `within`; their names are the plainer.
 fn is_fence(o: u32) -> bool
     ensures { result ≡ is_fence o }
 {
     within(0x2000, 0x20, o)
 }
 
-// The number of the fence that has `o`. The caller shows that one has.
+// The number of the fence that has `o`. The caller shows that one has. Apart from `entry_number`, since each is bounded by its array.
 fn fence_number(o: u32) -> usize
     requires { is_fence o ≡ true }
     ensures { (result ≡ fence_number o) × (result < 8) }
@@ -92,9 +92,8 @@ pub fn regs_value(r: Regs, o: u32) -> u32
     }
 }
 
-// What an access that fits reads at `o`. The host's call shows the table's length.
-pub fn value(fences: [u32; 8], r: Regs, table: &[u32], o: u32) -> u32
-    requires { length table.now ≡ 16384 }
+// What an access that fits reads at `o`.
+pub fn value(fences: [u32; 8], r: Regs, table: &Entries, o: u32) -> u32
     ensures { result ≡ mapped_value fences r table.now o }
 {
     if is_entry(o) {
@@ -112,43 +111,40 @@ pub fn value(fences: [u32; 8], r: Regs, table: &[u32], o: u32) -> u32
 pub fn regs_written(r: Regs, o: u32, v: u32) -> Regs
     ensures { result ≡ regs_written r o v }
 {
-    let mut q = r;
     match o {
-        0x2020 => { // PGTBL_CTL: base 31:12, on 0
-            q.control = v & 0xFFFFF001;
-            return q;
-        }
-        0x2030 => { // RINGBUF tail: 20:3
-            q.tail = v & 0x1FFFF8;
-            return q;
-        }
-        0x2034 => { // RINGBUF head: wraps 31:21, offset 20:2
-            q.head = v & 0xFFFFFFFC;
-            return q;
-        }
-        0x2038 => { // RINGBUF start: 25:12
-            q.start = v & 0x3FFF000;
-            return q;
-        }
-        0x203C => { // RINGBUF length: pages less one 20:12, enable 0
-            q.pages = v & 0x1FF001;
-            return q;
-        }
-        0x20A0 => { // IER
-            q.enable = v % 65536;
-            return q;
-        }
-        0x20A4 => { // IIR: cleared by writing 1
-            q.identity = r.identity & (65535 - v % 65536);
-            return q;
-        }
-        0x20A8 => { // IMR
-            q.mask = v % 65536;
-            return q;
-        }
-        _ => {
-            return q;
-        }
+        0x2020 => Regs {
+            control: v & 0xFFFFF001,
+            ..r
+        }, // PGTBL_CTL: base 31:12, on 0
+        0x2030 => Regs {
+            tail: v & 0x1FFFF8,
+            ..r
+        }, // RINGBUF tail: 20:3
+        0x2034 => Regs {
+            head: v & 0xFFFFFFFC,
+            ..r
+        }, // RINGBUF head: wraps 31:21, offset 20:2
+        0x2038 => Regs {
+            start: v & 0x3FFF000,
+            ..r
+        }, // RINGBUF start: 25:12
+        0x203C => Regs {
+            pages: v & 0x1FF001,
+            ..r
+        }, // RINGBUF length: pages less one 20:12, enable 0
+        0x20A0 => Regs {
+            enable: v % 65536,
+            ..r
+        }, // IER
+        0x20A4 => Regs {
+            identity: r.identity & (65535 - v % 65536),
+            ..r
+        }, // IIR: cleared by writing 1
+        0x20A8 => Regs {
+            mask: v % 65536,
+            ..r
+        }, // IMR
+        _ => r,
     }
 }
 
@@ -160,11 +156,9 @@ pub fn written(s: State, o: u32, v: u32) -> State
     if is_fence(o) {
         // Start 25:19, walk 12, size 10:8, pitch 6:4, valid 0.
         t.fences[fence_number(o)] = v & 0x3F81771;
-        return t;
+    } else {
+        t.regs = regs_written(s.regs, o, v);
     }
-    let r = s.regs;
-    let q = regs_written(r, o, v);
-    t.regs = q;
     t
 }
 
@@ -175,9 +169,8 @@ pub fn stored(v: u32) -> u32
     v & 0x3FFFF007
 }
 
-// The private translation table after `v` is written at `o`. The host's call shows the table's length.
-pub fn table_written(table: &mut [u32], o: u32, v: u32)
-    requires { length table.old ≡ 16384 }
+// The private translation table after `v` is written at `o`.
+pub fn table_written(table: &mut Entries, o: u32, v: u32)
     ensures { table.new ≡ table_written table.old o v }
 {
     if is_entry(o) {
@@ -204,22 +197,12 @@ pub fn dram_written(dram: [u32; 3], o: u32, v: u32) -> [u32; 3]
 {
     let mut q = dram;
     match o {
-        0x3000 => { // DRT: bit 0
-            q[0] = v % 2;
-            return q;
-        }
-        0x3001 => { // DRAMCL
-            q[1] = v % 256;
-            return q;
-        }
-        0x3002 => { // DRAMCH
-            q[2] = v % 256;
-            return q;
-        }
-        _ => {
-            return q;
-        }
+        0x3000 => q[0] = v % 2, // DRT: bit 0
+        0x3001 => q[1] = v % 256, // DRAMCL
+        0x3002 => q[2] = v % 256, // DRAMCH
+        _ => {}
     }
+    q
 }
 
 // ---- interrupts
@@ -228,8 +211,5 @@ pub fn dram_written(dram: [u32; 3], o: u32, v: u32) -> [u32; 3]
 pub fn line(r: Regs) -> u8
     ensures { result ≡ line_of r }
 {
-    if r.identity & r.enable == 0 {
-        return 0;
-    }
-    1
+    u8::from(r.identity & r.enable != 0)
 }

@@ -1,17 +1,10 @@
 -- Records and answers in flat bytes.
-use Prim.Native.Nat.{ℕ, zero, suc, ◌+◌, ◌/◌, ◌%◌, ◌^◌, ◌≤◌, ◌<◌}
-use mathlib.Core.Path.{◌≡◌, refl, sym, ap, ◌∙◌}
-use mathlib.Core.List.{List, [], ◌∷◌, ◌++◌}
-use native.Mathlib.Omega.{arith}
-use native.Mathlib.Nat.{add-zero, div-one, div-div-eq-div-mul, pow-suc, mul_comm}
-use borrow.Author.Tests.{ne_eqb}
-use mathlib.Core.Bool.{false}
-use lib.ListN.{length, get_or, set, take, drop}
-use lib.Seq.{sets, get_or-take, get_or-drop}
+use Rattle.std.proofs.Common.{ℕ, zero, suc, ◌+◌, ◌/◌, ◌%◌, ◌^◌, ◌≤◌, ◌<◌, ◌≡◌, refl, sym, ap, ◌∙◌, List, [], ◌∷◌, ◌++◌, arith, add-zero, div-one, pow-suc, mul_comm, length, get_or, set, take, drop, get_or-take, get_or-drop}
+use Rattle.std.proofs.Math.Nat.{div-div-eq-div-mul}
+use Rattle.std.proofs.lemmas.List.Edits.{sets}
 use Rattle.gmch.specs.Words.{load_le, store_le, bytes_of}
-use Rattle.gmch.specs.Records.{record_of, fits_word, answer_bytes}
+use Rattle.gmch.specs.Records.{record_of, answer_bytes}
 use Rattle.gmch.specs.declared.Answer.{Answer}
-use Rattle.gmch.proofs.Choice.{choices}
 use Rattle.gmch.proofs.Words.{length-bytes_of}
 
 -- ---- a part of a list
@@ -41,13 +34,6 @@ record_part l at =
       load_le-part l at 16 4 12 (omega arith),
     )
     refl
-
--- ---- code 2
-
--- a width that is too large
-pub wide_misfits : (w a : ℕ) → 4 < w → fits_word w a ≡ false
-unfolding fits_word
-wide_misfits w a h = simp (ne_eqb w 1 (λ e. omega arith), ne_eqb w 2 (λ e. omega arith), ne_eqb w 4 (λ e. omega arith), choices)
 
 -- ---- stores one after the other
 

@@ -16,17 +16,17 @@ pub fn record_at(records: &[u8], at: usize) -> Record
     ensures { result ≡ record_of (take 16 (drop at records.now)) }
 {
     Record {
-        kind: words::wide(records[at]),
-        width: words::wide(records[at + 1]),
-        flags: words::wide(records[at + 2]),
-        zero: words::wide(records[at + 3]),
+        kind: u32::from(records[at]),
+        width: u32::from(records[at + 1]),
+        flags: u32::from(records[at + 2]),
+        zero: u32::from(records[at + 3]),
         address: words::load4(records, at + 4),
         value: words::load4(records, at + 8),
         rest: words::load4(records, at + 12),
     }
 }
 
-// Kinds 2, 5 and 7 write.
+// Kinds 2, 5 and 7 write. A kind stays a number and no enum: this and `well_formed`'s contract speak of every number.
 pub fn is_write(kind: u32) -> bool
     ensures { result ≡ is_write kind }
 {
@@ -47,7 +47,7 @@ pub fn is_management(r: Record) -> bool
     is_processor(r.kind) & (r.flags % 2 == 1)
 }
 
-// What a record of kinds 1 to 7 asks for.
+// What a record of kinds 1 to 7 asks for. No `From`: both types are another crate's (tried: orphan-impl).
 pub fn access_of(r: Record) -> Access
     ensures { result ≡ access_of r }
 {
@@ -86,10 +86,7 @@ pub fn well_formed(r: Record) -> bool
 pub fn fits_word(width: u32, address: u32) -> bool
     ensures { result ≡ fits_word width address }
 {
-    if 4 < width {
-        return false;
-    }
-    ((width == 1) | ((width == 2) | (width == 4))) & (address % 4 + width <= 4)
+    ((width == 1) | ((width == 2) | (width == 4))) && address % 4 + width <= 4
 }
 
 // ---- answers
@@ -99,10 +96,10 @@ fn answer(code: u8, target: u8, address: u32, value: u32) -> Answer
     ensures { result ≡ answer code target address value }
 {
     Answer {
-        code: code,
-        target: target,
-        address: address,
-        value: value,
+        code,
+        target,
+        address,
+        value,
         count: 0,
     }
 }
@@ -116,12 +113,9 @@ pub fn reply(t: Target, v: u32) -> Answer
         Target::Memory(p) => answer(0, 1, p, v),
         Target::Cache(p) => answer(0, 6, p, v),
         Target::Register(n) => answer(0, 2, n, v),
-        Target::Hub(p) => answer(0, 3, p, v),
-        Target::HubError(p) => answer(0, 3, p, v),
+        Target::Hub(p) | Target::HubError(p) => answer(0, 3, p, v),
         Target::Vga(o) => answer(0, 4, o, v),
-        Target::Mapped(o) => answer(0, 5, o, v),
-        Target::Entry(o, _) => answer(0, 5, o, v),
-        Target::CacheRegister(o) => answer(0, 5, o, v),
+        Target::Mapped(o) | Target::Entry(o, _) | Target::CacheRegister(o) => answer(0, 5, o, v),
     }
 }
 
@@ -132,7 +126,7 @@ pub fn reset_reply() -> Answer
     answer(0, 0, 0, 0)
 }
 
-// Stores an answer's 16 bytes at `at`.
+// Stores an answer's 16 bytes at `at`, field by field: an array of the 16 would be no plainer, and be copied.
 pub fn put_answer(answers: &mut [u8], at: usize, a: Answer, line: u8)
     requires { at + 16 ≤ length answers.old }
     ensures { answers.new ≡ sets answers.old at (answer_bytes a line) }

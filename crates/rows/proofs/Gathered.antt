@@ -1,11 +1,6 @@
 -- A byte's bits of its word are its masks: a test over the 512 bytes, closed by computing.
-use mathlib.Core.Path.{◌≡◌, refl}
-use mathlib.Core.Bool.{Bool, true, false}
-use Prim.Native.Nat.{ℕ, ◌+◌, ◌-◌, ◌/◌, ◌%◌, ◌<◌}
-use native.Mathlib.Decide.{ℕ_discrete}
-use native.Mathlib.Omega.{arith}
-use borrow.Author.Tests.{ne_eqb}
-use lib.Dec.{eqb}
+use Rattle.std.proofs.Common.{◌≡◌, refl, Bool, true, false, ℕ, ◌+◌, ◌-◌, ◌/◌, ◌%◌, ◌<◌, arith, ne_eqb, eqb}
+use Rattle.std.proofs.Math.Decide.{ℕ_discrete}
 use Rattle.gmch.specs.Choice.{pick, ◌and◌, ◌or◌}
 use Rattle.gmch.specs.Words.{within}
 use Rattle.gmch.specs.Rows.{rows, row_in, byte_of, masks_of}

@@ -1,4 +1,3 @@
 pub mod Fill
-pub mod Fold
 pub mod Gathered
 pub mod Table

@@ -1,9 +1,6 @@
--- Two functions that give the same up to a bound, closed by computing.
-use mathlib.Core.Path.{◌≡◌}
-use mathlib.Core.List.{List, [], ◌∷◌}
-use Prim.Native.Nat.{ℕ, zero, suc, ◌<◌}
-use native.Mathlib.Decide.{ℕ_discrete}
-use native.Mathlib.Omega.{arith}
+-- Two functions that give the same up to a bound, closed by computing; the library's `agree_below` has this of tests alone.
+use Rattle.std.proofs.Common.{◌≡◌, List, [], ◌∷◌, ℕ, zero, suc, ◌<◌, arith}
+use Rattle.std.proofs.Math.Decide.{ℕ_discrete}
 
 -- what f gives below n
 unfoldable pub table : {A : Type 0} → (ℕ → A) → ℕ → List A

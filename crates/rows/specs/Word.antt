@@ -1,6 +1,6 @@
 -- What a write may change of an aligned word of four bytes, gathered from the rows.
 use Rattle.std.specs.Prelude.{ℕ, ◌-◌, ◌*◌, ◌/◌, ◌%◌, ◌^◌, Bool, eqb}
-use mathlib.Core.List.{foldl}
+use Rattle.std.specs.List.{fold}
 use Rattle.std.specs.Int.Bits.{bit_and, bit_or}
 use Rattle.gmch.specs.Choice.{pick}
 use Rattle.gmch.specs.Rows.{rows}
@@ -18,7 +18,7 @@ joined_by f w p r = joined p (f r) r.at w
 -- what the rows say of the aligned word w
 unfoldable pub row_bits : ℕ → Bits
 row_bits w =
-    record { writable = foldl (joined_by (λ (r : Row). r.writable) w) 0 rows; clearing = foldl (joined_by (λ (r : Row). r.clearing) w) 0 rows }
+    record { writable = fold (joined_by (λ (r : Row). r.writable) w) 0 rows; clearing = fold (joined_by (λ (r : Row). r.clearing) w) 0 rows }
 
 -- the bits of the write-once registers 2Ch and 2Eh of device 1 that have been written
 unfoldable pub fixed_bits : Bool → Bool → ℕ → ℕ

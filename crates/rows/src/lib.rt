@@ -7,13 +7,15 @@ ghost use Rattle.rows.specs.Word.{joined, row_bits, fixed_bits, bits_of};
 
 use gmch::Row;
 
-// What a write may change of an aligned word of four bytes: the bits that it stores, and those that a written 1 clears.
+// What a write may change of an aligned word of four bytes: the bits that it stores, and those that a written 1 clears. No `Masks`: a
+// word has no default.
 #[derive(Clone, Copy)]
 pub struct Bits {
     pub writable: u32,
     pub clearing: u32,
 }
 
+// Written out: a constant may not call a function, as a `const fn row` (tried: unsupported-constant-expression).
 const ROWS: [Row; 26] = [
     // device 0: VID
     Row {
@@ -229,15 +231,11 @@ fn default_bytes(device: u32) -> [u8; 256]
     requires { device < 2 }
     ensures { result ≡ defaults_from (device * 256) 256 }
 {
-    let table = ROWS;
     let mut a = [0u8; 256];
-    let mut i: usize = 0;
-    while i < 26 {
-        let r = table[i];
+    for r in &ROWS {
         if r.at / 256 == device {
             words::store(&mut a, (r.at % 256) as usize, r.width, r.default);
         }
-        i = i + 1;
     }
     a
 }
@@ -253,7 +251,9 @@ fn id_byte(board: u32, device: u32) -> u8
     (0x20 + device + 2) as u8
 }
 
-// A device's 256 bytes at a cold start.
+// A device's 256 bytes at a cold start. Out of line: in line it takes registers from the loop over records. The device stays a number:
+// an enum of the two would be no plainer, since all three functions use it as one.
+#[inline(never)]
 pub fn cold_bytes(board: u32, device: u32) -> [u8; 256]
     requires { device < 2 }
     ensures { result ≡ cold_bytes board device }
@@ -275,32 +275,17 @@ fn joined(p: u32, n: u32, at: u32, w: u32) -> u32
     p
 }
 
-// What the rows say of the aligned word w. Two loops: the compiler unrolls each, and the rows are then constants.
+// What the rows say of the aligned word w. The compiler unrolls each chain, and the rows are then constants.
 fn row_bits(w: u32) -> Bits
     ensures { result ≡ row_bits w }
 {
-    let table = ROWS;
-    let mut p: u32 = 0;
-    let mut i: usize = 0;
-    while i < 26 {
-        let r = table[i];
-        p = joined(p, r.writable, r.at, w);
-        i = i + 1;
-    }
-    let mut c: u32 = 0;
-    let mut j: usize = 0;
-    while j < 26 {
-        let r = table[j];
-        c = joined(c, r.clearing, r.at, w);
-        j = j + 1;
-    }
     Bits {
-        writable: p,
-        clearing: c,
+        writable: ROWS.iter().fold(0, |p, r| joined(p, r.writable, r.at, w)),
+        clearing: ROWS.iter().fold(0, |p, r| joined(p, r.clearing, r.at, w)),
     }
 }
 
-// The bits of the write-once registers 2Ch and 2Eh of device 1 that have been written.
+// The bits of the write-once registers 2Ch and 2Eh of device 1 that have been written. Two flags, as `State` has them.
 fn fixed_bits(w: u32, wrote2c: bool, wrote2e: bool) -> u32
     ensures { result ≡ fixed_bits wrote2c wrote2e w }
 {

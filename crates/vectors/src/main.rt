@@ -10,14 +10,12 @@ use std::io;
 // CF8h after a write of `v`, if that is where it ends.
 fn select(rt: &impl Print, s: State, v: u32) -> io::Result<State> {
     match config::port_target(s.cf8, 0, 4, 0xCF8) {
-        Target::Register(n) => {
-            if n == 0xCF8 {
-                println!(rt; "CF8h is written {v:08x}: register 00000cf8")?;
-                let mut t = s;
-                t.cf8 = config::selected(v);
-                return Ok(t);
-            }
-            Ok(s)
+        Target::Register(0xCF8) => {
+            println!(rt; "CF8h is written {v:08x}: register 00000cf8")?;
+            Ok(State {
+                cf8: config::selected(v),
+                ..s
+            })
         }
         _ => Ok(s),
     }
@@ -28,11 +26,9 @@ fn read(rt: &impl Print, s: State) -> io::Result<()> {
     match config::port_target(s.cf8, 0, 4, 0xCFC) {
         Target::Register(n) => {
             print!(rt; "CFCh is read: register {n:08x}")?;
-            if n % 4 == 0 {
-                if n < 512 {
-                    let value = config::register_value(s.cf8, &s.dev0, &s.dev1, n, 4);
-                    print!(rt; ", value {value:08x}")?;
-                }
+            if n % 4 == 0 && n < 512 {
+                let value = config::register_value(s.cf8, &s.dev0, &s.dev1, n, 4);
+                print!(rt; ", value {value:08x}")?;
             }
             println!(rt; "")
         }
@@ -55,21 +51,17 @@ fn entry(rt: &impl Print, v: u32) -> io::Result<()> {
         cache: false,
     };
     match graphics::entry_reach(m, v, 0) {
-        Place::InMain(p) => println!(rt; " reaches {p:08x}"),
-        Place::InCache(p) => println!(rt; " reaches the display cache at {p:08x}"),
-        Place::NoPlace(c, _) => println!(rt; " is refused with code {c}"),
+        Ok(Place::InMain(p)) => println!(rt; " reaches {p:08x}"),
+        Ok(Place::InCache(p)) => println!(rt; " reaches the display cache at {p:08x}"),
+        Err(refusal) => println!(rt; " is refused with code {}", refusal.code),
     }
 }
 
 // ---- zero records
 
 fn call(rt: &impl Print, length: usize) -> io::Result<()> {
-    print!(rt; "a call with records of {length}")?;
-    if desk::good_call(0, 0x800000, length, length, 0) {
-        println!(rt; " bytes: result 0")
-    } else {
-        println!(rt; " bytes: result 1")
-    }
+    let result = u32::from(!desk::good_call(0, 0x800000, length, length, 0));
+    println!(rt; "a call with records of {length} bytes: result {result}")
 }
 
 // ---- the power state of device 1, from any value: 01 and 10 cannot be left there by a replay from a cold start
@@ -90,10 +82,10 @@ fn power(rt: &impl Print, held: u8, v: u32, n: u32) -> io::Result<()> {
 
 // Each state held and each written, with bit 8.
 fn powers(rt: &impl Print, n: u32) -> io::Result<()> {
-    let mut i: u32 = 0;
-    while i < 16 {
-        power(rt, (i / 4) as u8, 0x100 + i % 4, n)?;
-        i = i + 1;
+    for held in 0..4 {
+        for state in 0..4 {
+            power(rt, held, 0x100 + state, n)?;
+        }
     }
     Ok(())
 }

@@ -1,5 +1,4 @@
-use mathlib.Core.Logic.{⊎_elim}
-use native.Mathlib.Omega.{arith}
+use Rattle.std.proofs.Common.{⊎_elim, arith}
 use Rattle.gmch.proofs.Choice.{tests}
 use Rattle.gmch.specs.Config.{register_value}
 use Rattle.config.proofs.register_value.Goals as goal

@@ -1,6 +1,4 @@
-use borrow.Author.Tests.{ne_eqb, eq-eqb}
-use Prim.Native.Nat.{◌/◌, ◌%◌}
-use native.Mathlib.Omega.{arith}
+use Rattle.std.proofs.Common.{ne_eqb, eq-eqb, ◌/◌, ◌%◌, arith}
 use Rattle.gmch.specs.Access.{barred}
 use Rattle.gmch.proofs.Choice.{choices}
 use Rattle.lock.proofs.barred.Goals as goal

@@ -1,4 +1,4 @@
-use mathlib.Core.Path.{refl}
+use Rattle.std.proofs.Common.{refl}
 use Rattle.gmch.specs.Choice.{◌and◌}
 use Rattle.gmch.specs.Machine.{has_cache}
 use Rattle.gmch.specs.Map.{cache_on}

@@ -1,9 +1,4 @@
-use Prim.Native.Nat.{ℕ, ◌≤◌, ◌-◌}
-use mathlib.Core.Path.{◌≡◌, refl, ◌∙◌}
-use mathlib.Core.Bool.{Bool, true, false, ◌&&◌, ◌||◌}
-use native.Mathlib.Omega.{arith}
-use lib.Dec.{leb, ltb}
-use borrow.Author.Tests.{leb-true, leb-false, ltb-false}
+use Rattle.std.proofs.Common.{ℕ, ◌≤◌, ◌-◌, ◌≡◌, refl, ◌∙◌, Bool, true, false, ◌&&◌, ◌||◌, arith, leb, ltb, leb-true, leb-false, ltb-false}
 use Rattle.gmch.specs.Choice.{◌and◌, ◌or◌}
 use Rattle.gmch.specs.Words.{within}
 use Rattle.gmch.specs.Smram.{tseg_size}

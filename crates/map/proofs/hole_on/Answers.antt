@@ -1,4 +1,4 @@
-use mathlib.Core.Path.{refl}
+use Rattle.std.proofs.Common.{refl}
 use Rattle.gmch.specs.Map.{hole_on}
 use Rattle.map.proofs.hole_on.Goals as goal
 

@@ -1,4 +1,4 @@
-use mathlib.Core.Path.{refl}
+use Rattle.std.proofs.Common.{refl}
 use Rattle.gmch.specs.Choice.{◌and◌, ◌or◌}
 use Rattle.gmch.specs.Map.{low_open}
 use Rattle.map.proofs.low_open.Goals as goal

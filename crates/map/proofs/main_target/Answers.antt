@@ -1,5 +1,5 @@
 -- By the tests of each branch, on what the calls gave.
-use borrow.Author.Tests.{not-true, not-false}
+use Rattle.std.proofs.lemmas.Bool.{not-true, not-false}
 use Rattle.gmch.proofs.Choice.{called}
 use Rattle.gmch.specs.Map.{main_target}
 use Rattle.map.proofs.main_target.Goals as goal

@@ -17,7 +17,7 @@ returns-then-p-lt1048576 c = unfold master_target in search (tests, c.shadow_tar
 
 pub returns-then-p-u : goal.returns-then-p-u
 returns-then-p-u c =
-    unfold master_target in search (tests, c.main_target.ensures, ← c.tseg_start-tseg.ensures.0, ← c.usable-u.ensures)
+    unfold master_target in search (tests, c.main_target.ensures, ← c.tseg_start-tseg.ensures, ← c.usable-u.ensures)
 
 pub returns : goal.returns
-returns c = unfold master_target in search (tests, ← c.tseg_start-tseg.ensures.0, ← c.usable-u.ensures)
+returns c = unfold master_target in search (tests, ← c.tseg_start-tseg.ensures, ← c.usable-u.ensures)

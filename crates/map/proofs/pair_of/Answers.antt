@@ -1,4 +1,4 @@
-use mathlib.Core.Path.{refl}
+use Rattle.std.proofs.Common.{refl}
 use Rattle.gmch.specs.Map.{pair_of}
 use Rattle.map.proofs.pair_of.Goals as goal
 

@@ -1,6 +1,5 @@
 -- Each return hands the facts of its branches to the law of its rule.
-use native.Mathlib.Omega.{arith}
-use mathlib.Core.Path.{◌∙◌, ap}
+use Rattle.std.proofs.Common.{arith, ◌∙◌, ap}
 use Rattle.gmch.specs.declared.Route.TheVariants.{To}
 use Rattle.gmch.proofs.Choice.{flag}
 use Rattle.gmch.proofs.Rules.{hseg_from, hit_from, rule_1, rule_2, rule_3, rule_4, rule_5, rule_6, rule_7, rule_8, rule_9}

@@ -1,6 +1,5 @@
 -- The offset is within the range.
-use mathlib.Core.Path.{refl}
-use native.Mathlib.Omega.{arith}
+use Rattle.std.proofs.Common.{refl, arith}
 use Rattle.gmch.proofs.Words.{within_from, within_to}
 use Rattle.gmch.specs.Mapped.{is_fence}
 use Rattle.mapped.proofs.fence_number.Goals as goal

@@ -1,10 +1,7 @@
 -- By the tests of each branch.
-use Rattle.gmch.proofs.Choice.{flag, called}
+use Rattle.gmch.proofs.Choice.{called}
 use Rattle.gmch.specs.Mapped.{table_written}
 use Rattle.mapped.proofs.table_written.Goals as goal
-
-pub entry_number-requires : goal.entry_number-requires
-entry_number-requires c = search flag
 
 pub returns-then-is_entry : goal.returns-then-is_entry
 returns-then-is_entry c = unfold table_written in rw (c.entry_number.ensures.0, c.stored.ensures) (search called)

@@ -1,16 +1,10 @@
 -- By the tests of each branch.
-use Rattle.gmch.proofs.Choice.{flag, called}
+use Rattle.gmch.proofs.Choice.{called}
 use Rattle.gmch.specs.Mapped.{mapped_value}
 use Rattle.mapped.proofs.value.Goals as goal
 
-pub entry_number-requires : goal.entry_number-requires
-entry_number-requires c = search flag
-
 pub returns-then-is_entry : goal.returns-then-is_entry
 returns-then-is_entry c = unfold mapped_value in rw c.entry_number.ensures.0 (search called)
-
-pub fence_number-requires : goal.fence_number-requires
-fence_number-requires c = search flag
 
 pub returns-then-is_fence : goal.returns-then-is_fence
 returns-then-is_fence c = unfold mapped_value in rw c.fence_number.ensures.0 (search called)

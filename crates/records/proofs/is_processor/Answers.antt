@@ -1,4 +1,4 @@
-use mathlib.Core.Path.{refl}
+use Rattle.std.proofs.Common.{refl}
 use Rattle.gmch.specs.Choice.{◌and◌, ◌or◌}
 use Rattle.gmch.specs.Records.{is_processor}
 use Rattle.records.proofs.is_processor.Goals as goal

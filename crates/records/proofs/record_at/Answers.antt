@@ -1,4 +1,4 @@
-use mathlib.Core.Path.{◌∙◌, sym}
+use Rattle.std.proofs.Common.{◌∙◌, sym}
 use Rattle.records.proofs.Bytes.{record_part}
 use Rattle.records.proofs.record_at.Goals as goal
 

@@ -1,11 +1,5 @@
 -- Each arm says what the kind is, and the definition's tests of it compute; the last says what it is not.
-use Prim.Native.Nat.{ℕ, ◌≤◌}
-use mathlib.Core.Path.{◌≡◌, refl, sym}
-use mathlib.Core.Bool.{Bool, true, false}
-use mathlib.Core.Logic.{◌≢◌}
-use native.Mathlib.Omega.{arith}
-use lib.Dec.{leb}
-use borrow.Author.Tests.{leb-true}
+use Rattle.std.proofs.Common.{ℕ, ◌≤◌, ◌≡◌, refl, sym, Bool, true, false, ◌≢◌, arith, leb, leb-true}
 use Rattle.gmch.specs.Choice.{◌and◌, ◌or◌}
 use Rattle.gmch.specs.Records.{is_write, takes_data, is_processor, well_formed}
 use Rattle.gmch.specs.declared.Record.{Record}

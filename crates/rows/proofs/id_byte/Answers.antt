@@ -1,4 +1,4 @@
-use native.Mathlib.Nat.{add-zero}
+use Rattle.std.proofs.Common.{add-zero}
 use Rattle.gmch.proofs.Choice.{tests}
 use Rattle.gmch.specs.Rows.{id_byte}
 use Rattle.rows.proofs.id_byte.Goals as goal

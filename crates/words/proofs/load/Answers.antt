@@ -1,18 +1,13 @@
 -- The width is known at each return, and `load_le` computes there to the sum of the bytes.
-use native.Mathlib.Omega.{arith}
-use native.Mathlib.Nat.{add-zero}
-use mathlib.Core.Path.{◌≡◌}
+use Rattle.std.proofs.Common.{◌≡◌, add-zero, arith}
 use Rattle.gmch.specs.Words.{load_le}
 use Rattle.words.proofs.load.Goals as goal
 
-pub returns-then-width-eq4 : goal.returns-then-width-eq4
-returns-then-width-eq4 c = rw c.if-width-eq4.true c.load4.ensures
+pub returns-in-2 : goal.returns-in-2
+returns-in-2 c = unfold load_le in rw c.in-2.is (simp (c.from.ensures, c.from_le_bytes.ensures, add-zero) (omega arith))
 
-pub returns-then-width-eq2 : goal.returns-then-width-eq2
-returns-then-width-eq2 c = unfold load_le in simp (c.if-width-eq2.true, add-zero) (omega arith)
-
-pub returns : goal.returns
+pub returns-in_default : goal.returns-in_default
 unfolding load_le
-returns c =
+returns-in_default c =
     let w : c.args.width ≡ 1 = omega arith in
-    simp (w, add-zero) (omega arith)
+    rw w (simp (c.from-in_default.ensures, add-zero) (omega arith))

@@ -1,22 +1,17 @@
 -- The width is known at each return, and `store_le` computes there to the stores.
-use native.Mathlib.Omega.{arith}
-use native.Mathlib.Nat.{add-zero, div-one}
-use mathlib.Core.Path.{◌≡◌}
-use lib.ListN.{length-set}
+use Rattle.std.proofs.Common.{◌≡◌, add-zero, div-one, arith}
 use Rattle.gmch.specs.Words.{store_le}
+use Rattle.words.proofs.Stores.{copied}
 use Rattle.words.proofs.store.Goals as goal
 
-pub returns-then-width-eq4 : goal.returns-then-width-eq4
-returns-then-width-eq4 c = rw c.if-width-eq4.true c.store4.ensures
+pub returns-in-2 : goal.returns-in-2
+returns-in-2 c =
+    let a = c.args in
+    let e = c.to_le_bytes-bytes.ensures in
+    rw c.in-2.is (copied 2 a.at _ a.value a.s.now _ (rw e at c.copy_from_slice.ensures.after) (omega arith) (omega arith) (omega arith))
 
-pub bounds-s-at-then-width-eq2 : goal.bounds-s-at-then-width-eq2
-bounds-s-at-then-width-eq2 c = simp length-set (omega arith)
-
-pub returns-then-width-eq2 : goal.returns-then-width-eq2
-returns-then-width-eq2 c = unfold store_le in simp (c.if-width-eq2.true, add-zero, div-one)
-
-pub returns-else-width-eq2 : goal.returns-else-width-eq2
+pub returns-in_default : goal.returns-in_default
 unfolding store_le
-returns-else-width-eq2 c =
+returns-in_default c =
     let w : c.args.width ≡ 1 = omega arith in
-    simp (w, add-zero, div-one)
+    rw (w, c.to_le_bytes-bytes.ensures) (simp (add-zero, div-one))

@@ -1,6 +1,6 @@
 -- The two laws of `within`, one for each branch.
 use Rattle.gmch.proofs.Words.{within_less, within_below}
-use mathlib.Core.Path.{sym}
+use Rattle.std.proofs.Common.{sym}
 use Rattle.words.proofs.within.Goals as goal
 
 pub returns-then-a-base : goal.returns-then-a-base

@@ -1,11 +1,7 @@
 -- The bytes from i on have been read; what they make fits.
-use Prim.Native.Nat.{◌+◌, ◌-◌, ◌^◌, ◌≤◌, ◌<◌}
-use mathlib.Core.Path.{◌≡◌}
+use Rattle.std.proofs.Common.{◌≡◌, ◌+◌, ◌-◌, ◌^◌, ◌<◌}
 use Rattle.gmch.specs.Config.{config_read}
 use Rattle.config.proofs.access.config_read.Given as goal
 
 abbrev pub invariant-loop-i : goal.invariant-loop-i
-invariant-loop-i l = (l.i ≤ l.n) × (l.v ≡ config_read l.dev0 l.dev1 (l.x + l.i) (l.n - l.i)) × (l.v < 256 ^ (l.n - l.i))
-
-abbrev pub decreases-loop-i : goal.decreases-loop-i
-decreases-loop-i l = l.i
+invariant-loop-i l = (l.v ≡ config_read l.dev0 l.dev1 (l.x + l.i) (l.n - l.i)) × (l.v < 256 ^ (l.n - l.i))

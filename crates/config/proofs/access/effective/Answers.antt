@@ -4,7 +4,7 @@ use Rattle.gmch.specs.Config.{unsupported, effective}
 use Rattle.config.proofs.access.effective.Goals as goal
 
 pub returns-then-v : goal.returns-then-v
-returns-then-v c = unfold effective unsupported ◌or◌ in search (c.if-v.true, tests)
+returns-then-v c = unfold effective unsupported ◌or◌ in rw c.from.ensures (search (c.if-v.true, tests))
 
 pub returns-else-v : goal.returns-else-v
 returns-else-v c = unfold effective unsupported ◌or◌ in search (c.if-v.false, tests)

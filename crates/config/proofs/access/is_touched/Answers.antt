@@ -1,4 +1,4 @@
-use mathlib.Core.Path.{refl}
+use Rattle.std.proofs.Common.{refl}
 use Rattle.gmch.specs.Choice.{◌and◌}
 use Rattle.gmch.specs.Config.{touches}
 use Rattle.config.proofs.access.is_touched.Goals as goal

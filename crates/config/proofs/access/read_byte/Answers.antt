@@ -1,5 +1,4 @@
-use mathlib.Core.Logic.{◌≢◌}
-use native.Mathlib.Omega.{arith}
+use Rattle.std.proofs.Common.{◌≢◌, arith}
 use Rattle.gmch.proofs.Choice.{tests, choices}
 use Rattle.gmch.specs.Choice.{◌and◌}
 use Rattle.gmch.specs.Config.{read_byte}

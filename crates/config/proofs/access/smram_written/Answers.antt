@@ -1,4 +1,4 @@
-use native.Mathlib.Nat.{add-zero}
+use Rattle.std.proofs.Common.{add-zero}
 use Rattle.gmch.proofs.Choice.{tests}
 use Rattle.gmch.specs.Smram.{smram_written}
 use Rattle.config.proofs.access.smram_written.Goals as goal
