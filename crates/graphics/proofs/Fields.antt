@@ -1,11 +1,9 @@
 -- What the masks of the fences' code keep, as quotients and remainders: the sum and the alignment of document 01.
-use mathlib.Core.Path.{◌≡◌, sym, ap, ◌∙◌}
-use Prim.Native.Nat.{ℕ, ◌+◌, ◌-◌, ◌*◌, ◌/◌, ◌%◌, ◌^◌, ◌≤◌, ◌<◌}
-use native.Mathlib.Nat.{mul_comm, mul_assoc, add-mul, mul-div_right, div-add-mod', div-div-eq-div-mul, add-mul-div_right, add-mul-mod_self_right, mod-eq_of_lt}
-use native.Mathlib.Omega.{arith}
-use lib.Arith.{mod-mul}
-use lib.Bits.{bit_and, and_le_r, and_mask, and_high}
-use lib.Pow.{pow_mono, pow-add, pow_pos}
+use Rattle.std.proofs.Common.{◌≡◌, ℕ, ◌+◌, ◌-◌, ◌*◌, ◌/◌, ◌%◌, ◌^◌, ◌≤◌, ◌<◌, sym, ap, ◌∙◌, bit_and, mul_comm, mul_assoc, add-mul, div-add-mod', mod-eq_of_lt, pow_mono, pow-add, pow_pos, arith}
+use Rattle.std.proofs.Math.Nat.{mul-div_right, div-div-eq-div-mul, add-mul-div_right, add-mul-mod_self_right}
+use Rattle.std.proofs.lemmas.Nat.{and_le_r, and_mask}
+use Rattle.std.proofs.lemmas.Nat.Bits.{and_high}
+use Rattle.std.proofs.Math.Arith.{mod-mul}
 use Rattle.gmch.specs.Fence.{fence_start, fence_size, tile}
 use Rattle.gmch.proofs.Fence.{size_pow}
 

@@ -1,5 +1,5 @@
-use mathlib.Core.Path.{sym, ◌∙◌}
-use lib.Bits.{and_mask}
+use Rattle.std.proofs.Common.{sym, ◌∙◌}
+use Rattle.std.proofs.lemmas.Nat.{and_mask}
 use Rattle.gmch.specs.Fence.{fence_matches}
 use Rattle.gmch.proofs.Choice.{tests, and_on}
 use Rattle.graphics.proofs.fence_matches.Goals as goal

@@ -1,5 +1,4 @@
-use native.Mathlib.Omega.{arith}
-use lib.Pow.{shl_exact}
+use Rattle.std.proofs.Common.{arith, shl_exact}
 use Rattle.gmch.specs.Fence.{fence_size}
 use Rattle.gmch.proofs.Choice.{tests}
 use Rattle.graphics.proofs.fence_size.Goals as goal

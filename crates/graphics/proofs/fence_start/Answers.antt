@@ -1,4 +1,4 @@
-use lib.Bits.{and_high}
+use Rattle.std.proofs.lemmas.Nat.Bits.{and_high}
 use Rattle.graphics.proofs.fence_start.Goals as goal
 
 pub returns : goal.returns

@@ -1,8 +1,4 @@
-use borrow.Author.Tests.{ne_eqb, eq-eqb}
-use Prim.Native.Nat.{◌%◌}
-use native.Mathlib.Omega.{arith}
-use mathlib.Core.Path.{ap, ◌∙◌}
-use mathlib.Core.Bool.{not}
+use Rattle.std.proofs.Common.{◌%◌, ap, ◌∙◌, not, arith, eq-eqb, ne_eqb}
 use Rattle.gmch.specs.Table.{forbidden}
 use Rattle.gmch.proofs.Choice.{choices, flag}
 use Rattle.gmch.proofs.Settled.{main_type}
@@ -10,7 +6,7 @@ use Rattle.graphics.proofs.forbidden.Goals as goal
 
 pub returns-then-word-eq0 : goal.returns-then-word-eq0
 unfolding forbidden
-returns-then-word-eq0 c = let e = c.if-word-eq0.true in simp (ne_eqb (c.args.word % 2) 1 (λ h. omega arith), choices)
+returns-then-word-eq0 c = simp (ne_eqb (c.args.word % 2) 1 (λ h. omega arith), choices)
 
 pub returns-then-foreign : goal.returns-then-foreign
 unfolding forbidden
@@ -19,7 +15,5 @@ returns-then-foreign c = simp (main_type _ ∙ ap not (flag c.foreign.ensures c.
 pub returns : goal.returns
 unfolding forbidden
 returns c =
-    let e = c.if-word-eq0.false in
-    let word = c.args.word in
-    let f = main_type _ ∙ ap not (flag c.foreign.ensures c.if-foreign.false) in
-    rw (c.protected_at.ensures, c.page_of.ensures) (simp (eq-eqb (word % 2) 1 (omega arith), f, choices))
+    let main = main_type _ ∙ ap not (flag c.foreign.ensures c.if-foreign.false) in
+    rw (c.protected_at.ensures, c.page_of.ensures) (simp (eq-eqb (c.args.word % 2) 1 (omega arith), main, choices))

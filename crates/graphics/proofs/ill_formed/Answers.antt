@@ -1,7 +1,5 @@
-use Prim.Native.Nat.{◌-◌, ◌/◌, ◌%◌}
-use native.Mathlib.Omega.{arith}
-use mathlib.Core.Path.{◌≡◌}
-use lib.Bits.{bit_and, and_mask}
+use Rattle.std.proofs.Common.{◌≡◌, ◌-◌, ◌/◌, ◌%◌, bit_and, arith}
+use Rattle.std.proofs.lemmas.Nat.{and_mask}
 use Rattle.gmch.specs.Fence.{ill_formed, fence_start, fence_size}
 use Rattle.gmch.proofs.Choice.{tests}
 use Rattle.gmch.proofs.Fence.{size_some}

@@ -1,7 +1,4 @@
-use borrow.Author.Tests.{lt-ltb, le-ltb}
-use Prim.Native.Nat.{ℕ, ◌+◌, ◌-◌, ◌*◌, ◌%◌, ◌≤◌, ◌<◌}
-use mathlib.Core.Path.{◌≡◌, sym, ◌∙◌}
-use native.Mathlib.Omega.{arith}
+use Rattle.std.proofs.Common.{◌≡◌, ℕ, ◌+◌, ◌-◌, ◌*◌, ◌%◌, ◌≤◌, ◌<◌, sym, ◌∙◌, lt-ltb, le-ltb, arith}
 use Rattle.gmch.specs.Ring.{ring_length, head_offset, head_wraps, advanced}
 use Rattle.gmch.specs.declared.Regs.{Regs}
 use Rattle.gmch.proofs.Choice.{pick_true, pick_false}

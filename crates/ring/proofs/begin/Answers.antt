@@ -1,5 +1,4 @@
-use borrow.Author.Tests.{ne_eqb}
-use native.Mathlib.Omega.{arith}
+use Rattle.std.proofs.Common.{ne_eqb, arith}
 use Rattle.gmch.specs.Choice.{◌or◌}
 use Rattle.gmch.specs.Ring.{step}
 use Rattle.gmch.proofs.Choice.{tests}

@@ -6,4 +6,4 @@ pub returns : goal.returns
 unfolding executed
 returns c =
     let s = c.requires in
-    rw (← s.0, ← c.advanced-head.ensures, ← interrupted_bit _ _ (rw s.0 at s.1))
+    rw (← s.0, ← c.advanced.ensures, ← interrupted_bit _ _ (rw s.0 at s.1))

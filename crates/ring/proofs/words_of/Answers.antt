@@ -1,9 +1,5 @@
-use Prim.Native.Nat.{ℕ, ◌%◌, ◌≤◌, ◌<◌}
-use mathlib.Core.Path.{◌≡◌, refl, sym, ap, ◌∙◌}
-use mathlib.Core.Bool.{Bool, true, false}
-use native.Mathlib.Omega.{arith}
-use lib.Dec.{eqb}
-use borrow.Author.Tests.{eqb-true, eqb-false}
+use Rattle.std.proofs.Common.{◌≡◌, ℕ, ◌%◌, ◌≤◌, ◌<◌, refl, sym, ap, ◌∙◌, Bool, true, false, eqb, eqb-true, arith}
+use Rattle.std.proofs.lemmas.Bool.{eqb-false}
 use Rattle.gmch.specs.Ring.{opcode, words_of}
 use Rattle.gmch.proofs.Choice.{pick_elim}
 use Rattle.ring.proofs.words_of.Goals as goal
@@ -16,19 +12,19 @@ three : (n : ℕ) → n ≤ 4 → (n ≡ 0 → ⊥) → (n ≡ 1 → ⊥) → (n
 three n h a b c d = omega arith
 
 -- the opcodes that are known
-unknown : (word : ℕ) → (opcode word ≡ 0 → ⊥) → (opcode word ≡ 2 → ⊥) → (opcode word ≡ 4 → ⊥) → 0 ≡ words_of word
+unknown : (word : ℕ) → (opcode word ≡ 0 → ⊥) → (opcode word ≡ 2 → ⊥) → (opcode word ≡ 4 → ⊥) → words_of word ≡ 0
 unfolding words_of
 unknown word a b c =
     pick_elim P _ (λ t. absurd (a (eqb-true _ _ t))) (λ _.
     pick_elim P _ (λ t. absurd (b (eqb-true _ _ t))) (λ _. pick_elim P _ (λ t. absurd (c (eqb-true _ _ t))) (λ _. refl)))
   where
     P : ℕ → Type 0
-    P n = 0 ≡ n
+    P n = n ≡ 0
 
-past : (word : ℕ) → 4 < opcode word → 0 ≡ words_of word
+past : (word : ℕ) → 4 < opcode word → words_of word ≡ 0
 past word h = unknown word (λ q. omega arith) (λ q. omega arith) (λ q. omega arith)
 
-odd : (word : ℕ) → opcode word % 2 ≡ 1 → 0 ≡ words_of word
+odd : (word : ℕ) → opcode word % 2 ≡ 1 → words_of word ≡ 0
 odd word e = unknown word (λ q. no (sym e ∙ parity q)) (λ q. no (sym e ∙ parity q)) (λ q. no (sym e ∙ parity q))
   where
     no : ◌≡◌ {A = ℕ} 1 0 → ⊥
@@ -48,10 +44,10 @@ even word h f =
     by false p a b c = f (parity (three (opcode word) h a (eqb-false _ _ p) b c))
 
 pub returns-then-op-gt4 : goal.returns-then-op-gt4
-returns-then-op-gt4 c = (past _ (omega arith), omega arith)
+returns-then-op-gt4 c = past _ (omega arith)
 
 pub returns-then-op-eq1 : goal.returns-then-op-eq1
-returns-then-op-eq1 c = (odd _ c.if-op-eq1.true, omega arith)
+returns-then-op-eq1 c = odd _ c.if-op-eq1.true
 
 pub returns : goal.returns
-returns c = (even _ (omega arith) c.if-op-eq1.false, omega arith)
+returns c = (even _ (omega arith) c.if-op-eq1.false, omega arith, omega arith)
