@@ -1,10 +1,6 @@
 -- The bytes that an access takes are there.
-use Prim.Native.Nat.{ℕ, ◌%◌, ◌≤◌}
-use mathlib.Core.Path.{◌≡◌, refl}
-use mathlib.Core.List.{List}
-use mathlib.Core.Bool.{Bool, true, false}
-use native.Mathlib.Omega.{arith}
-use lib.ListN.{length}
+use Rattle.std.proofs.Common.{ℕ, ◌%◌, ◌≤◌, ◌≡◌, refl, List, Bool, true, false, arith, length}
+use Rattle.gmch.specs.Look.{Look}
 use Rattle.gmch.specs.Records.{fits_word}
 use Rattle.gmch.specs.Map.{Tom, Sized, Cached, map_of, Shadow, route_of}
 use Rattle.gmch.specs.Machine.{cache_size, cache_length}
@@ -13,12 +9,12 @@ use Rattle.gmch.specs.declared.Board.{Board}
 use Rattle.gmch.specs.declared.State.{State}
 use Rattle.gmch.specs.declared.Map.{Map}
 use Rattle.gmch.specs.declared.Access.{Access}
-use Rattle.gmch.specs.declared.Look.{Look}
 use Rattle.gmch.specs.declared.Target.{Target}
 use Rattle.gmch.specs.declared.Target.TheVariants.{Refused}
 use Rattle.gmch.specs.declared.Route.{Route}
 use Rattle.gmch.proofs.Choice.{choices}
 use Rattle.gmch.proofs.Routing.{Safe, refused_safe, memory_safe, cache_safe, register_safe, hub_safe, error_safe, vga_safe, mapped_safe, entry_safe, cache_register_safe, sized, cached, target_safe, SafeRoute, to_safe, registers_safe, offset_safe, route_safe}
+use Rattle.graphics.specs.declared.translation.Translation.{Translation}
 use Rattle.words.specs.Width.{Width}
 use Rattle.words.proofs.Width.{fits_width}
 use Rattle.access.specs.Decide.{Reachable, InWindow}
@@ -37,11 +33,10 @@ in_window h registers_safe = tt
 in_window h (offset_safe o l k) = omega arith
 
 -- the route of an access that code 2 lets pass
-pub route_ready : (table main : List ℕ) (m : Map) (q : Shadow) (a : Access) (r : Route) → Sized m table main → fits_word a.width a.address ≡ true
-    → r ≡ route_of m q a → Sized m table main × InWindow r
-route_ready table main m q a r z f k =
+pub route_ready : (t : Translation) (q : Shadow) (a : Access) (r : Route) → fits_word a.width a.address ≡ true → r ≡ route_of t.map q a → InWindow r
+route_ready t q a r f k =
     let h = (fits_width a.width a.address f).1 in
-    rw k (z, in_window z.1 (route_safe m z.0 a h q z.2))
+    rw k (in_window t.sized.1 (route_safe t.map t.sized.0 a h q t.sized.2))
 
 -- ---- targets
 

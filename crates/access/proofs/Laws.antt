@@ -1,26 +1,22 @@
 -- A decision, with its effect carried out, is the definitions' access, target by target.
-use Prim.Native.Nat.{ℕ, ◌≤◌, ◌<◌}
-use mathlib.Core.Path.{◌≡◌, refl}
-use mathlib.Core.Logic.{◌⊎◌, inl, inr}
-use mathlib.Core.List.{List}
-use mathlib.Core.Bool.{Bool, true, false}
-use native.Mathlib.Omega.{arith}
-use lib.Dec.{eqb}
-use borrow.Author.Tests.{ne_eqb, eqb-false, le-ltb}
+use Rattle.std.proofs.Common.{ℕ, ◌≤◌, ◌<◌, ◌≡◌, refl, ◌⊎◌, inl, inr, List, Bool, true, false, arith, eqb, ne_eqb, le-ltb}
+use Rattle.std.proofs.lemmas.Bool.{eqb-false}
 use Rattle.gmch.specs.Choice.{pick}
 use Rattle.gmch.specs.Words.{within, load_le, store_le}
 use Rattle.gmch.specs.Records.{reply}
 use Rattle.gmch.specs.Config.{Placed, register_written}
 use Rattle.gmch.specs.Machine.{Machine, machine, with_main, with_cache}
 use Rattle.gmch.specs.Mapped.{listed_byte, is_entry, is_fence, mapped_value, regs_written, mapped_written, stored, table_written}
-use Rattle.gmch.specs.Access.{Out, done, act}
+use Rattle.gmch.specs.Access.{Out, done, act, is_table_word, barred, settled}
 use Rattle.gmch.specs.declared.State.{State}
 use Rattle.gmch.specs.declared.Access.{Access}
+use Rattle.gmch.specs.declared.Map.{Map}
 use Rattle.gmch.specs.declared.Answer.{Answer}
 use Rattle.gmch.specs.declared.Target.{Target}
-use Rattle.gmch.specs.declared.Target.TheVariants.{Memory, Cache, Register, Mapped, Entry}
+use Rattle.gmch.specs.declared.Target.TheVariants.{Refused, Memory, Cache, Register, Mapped, Entry}
 use Rattle.gmch.proofs.Choice.{choices, pick_elim}
 use Rattle.gmch.proofs.Words.{within_from}
+use Rattle.gmch.proofs.Settled.{settled_plain}
 use Rattle.access.specs.Decide.{Sound, changed, applied, store_effect, register_effect}
 
 abbrev pub out : State → List ℕ → List ℕ → List ℕ → Answer → Out
@@ -115,3 +111,21 @@ register_sound n width v p = pick_elim Sound (eqb n 0xCF8) (λ _. tt) (λ e. (be
 pub effect_sound : (write : Bool) (o v : ℕ) → Sound (store_effect write o v)
 unfolding store_effect
 effect_sound write o v = pick_elim Sound write (λ _. pick_elim Sound (is_entry o) (λ _. tt) (λ _. tt)) (λ _. tt)
+
+-- ---- code 16, by the branches that the code takes
+
+module _ (m : Map) (a : Access) (v : ℕ) (t : Target) where
+  pub word_barred : a.write ≡ true → is_table_word t ≡ true → barred m v ≡ true → settled m a v t ≡ Refused 16 0
+  unfolding settled
+  word_barred w i b = simp (w, i, b, choices)
+
+  pub read_passes : a.write ≡ false → settled m a v t ≡ t
+  unfolding settled
+  read_passes w = simp (w, choices)
+
+  pub free_passes : barred m v ≡ false → settled m a v t ≡ t
+  unfolding settled
+  free_passes b = simp (b, choices)
+
+-- what each arm of `act` rests on
+pub ruleset arms = (word_barred, read_passes, free_passes, settled_plain, memory_done, cache_done, entry_done, register_done, register_sound, effect_sound)

@@ -1,6 +1,6 @@
 -- One record as the code takes it: decided with the state only read, table and memories changed on the spot, and what is
 -- left to do to the state given as an effect.
-use Rattle.std.specs.Prelude.{ℕ, ◌+◌, ◌%◌, ◌≤◌, ◌<◌, List, ◌≡◌, Bool, eqb}
+use Rattle.std.specs.Prelude.{ℕ, ◌+◌, ◌%◌, ◌≤◌, ◌<◌, List, Bool, eqb}
 use Rattle.std.specs.Int.Bits.{bit_and}
 use Rattle.gmch.specs.Choice.{pick}
 use Rattle.gmch.specs.Config.{with_cf8, with_regs, with_dram, with_error, Placed, config_write}
@@ -11,7 +11,6 @@ use Rattle.gmch.specs.Replay.{cold_start}
 use Rattle.words.specs.Width.{Width}
 use Rattle.gmch.specs.Ring.{with_head}
 use Rattle.gmch.specs.declared.State.{State}
-use Rattle.gmch.specs.declared.Regs.{Regs}
 use Rattle.gmch.specs.declared.Target.{Target}
 use Rattle.gmch.specs.declared.Target.TheVariants.{Refused, Memory, Cache, Register, Hub, HubError, Vga, Mapped, Entry, CacheRegister}
 use Rattle.gmch.specs.declared.Route.{Route}
@@ -48,10 +47,6 @@ register_effect n width v = pick (eqb n 0xCF8) (Select (bit_and v 0x80FFFFFC)) (
 abbrev pub carried : State → List ℕ → List ℕ → List ℕ → Decided → Out
 carried s table main cache d = record { after = machine (applied s d.effect) table main cache; answer = d.answer }
 
--- a state by the parts that a decision goes by, and whether 2Ch and 2Eh have been written, which it does not look at
-abbrev pub state_of : ℕ → List ℕ → List ℕ → List ℕ → Regs → List ℕ → Bool → Bool → State
-state_of cf8 dev0 dev1 fences regs dram c e = record { cf8 = cf8; dev0 = dev0; dev1 = dev1; wrote2c = c; wrote2e = e; fences = fences; regs = regs; dram = dram }
-
 -- ---- the bytes that are taken are there
 
 -- an offset that rule 8 gives is in the window
@@ -80,9 +75,3 @@ Sound (Ring head identity) = Unit {0}
 Sound (Select v) = Unit {0}
 Sound (Configure n width v) = (n < 512) × (n % 4 + width ≤ 4)
 Sound (Rarely e) = Unit {0}
-
--- ---- a decision is right
-
--- in every state of these parts it is what the definitions say, and its effect can be carried out
-abbrev pub Decides : (Bool → Bool → State) → List ℕ → List ℕ → List ℕ → Decided → (State → Out) → Type 0
-Decides s table main cache d out = ((c e : Bool) → carried (s c e) table main cache d ≡ out (s c e)) × Sound d.effect

@@ -1,10 +1,5 @@
 -- A call whose arguments are wrong, and one whose arguments are right.
-use Prim.Native.Nat.{ℕ, ◌/◌, ◌%◌}
-use mathlib.Core.Path.{◌≡◌, refl, ap}
-use mathlib.Core.List.{List}
-use mathlib.Core.Bool.{true, false}
-use lib.ListN.{length}
-use borrow.Author.Tests.{leb-true, eqb-true}
+use Rattle.std.proofs.Common.{ℕ, ◌/◌, ◌%◌, ◌≡◌, refl, ap, List, true, false, length, leb-true, eqb-true}
 use Rattle.gmch.specs.Machine.{cache_length, Machine, machine, lent}
 use Rattle.gmch.specs.Map.{Tom}
 use Rattle.gmch.specs.Replay.{Replayed, cold_start, cold_table, cold_machine, replay}

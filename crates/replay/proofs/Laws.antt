@@ -1,10 +1,5 @@
 -- A decision, with its effect carried out, is the definitions' record, kind by kind.
-use Prim.Native.Nat.{ℕ}
-use mathlib.Core.Path.{◌≡◌, refl}
-use mathlib.Core.Logic.{◌≢◌}
-use mathlib.Core.List.{List}
-use mathlib.Core.Bool.{true, false, not}
-use borrow.Author.Tests.{eq-eqb, ne_eqb}
+use Rattle.std.proofs.Common.{ℕ, ◌≡◌, refl, ◌≢◌, List, true, false, ne_eqb}
 use Rattle.gmch.specs.Records.{access_of, well_formed, reset_reply}
 use Rattle.gmch.specs.Config.{with_regs}
 use Rattle.gmch.specs.Machine.{Machine, machine, lent}
@@ -25,23 +20,23 @@ use Rattle.access.proofs.Laws.{out}
 -- ---- a record, by its kind
 
 module _ (b : Board) (x : Machine) (r : Record) where
-  pub malformed : not (well_formed r) ≡ true → done x (Refused 13 0) 0 ≡ one_record b x r
+  pub malformed : well_formed r ≡ false → done x (Refused 13 0) 0 ≡ one_record b x r
   unfolding one_record
   malformed e = simp (e, choices)
 
-  module _ (e : not (well_formed r) ≡ false) where
+  module _ (e : well_formed r ≡ true) where
     pub a_run : r.kind ≡ 8 → parser_run b x r.value ≡ one_record b x r
     unfolding one_record
-    a_run k = simp (e, eq-eqb r.kind 8 k, choices)
+    a_run k = simp (e, k, choices)
 
-    module _ (n : r.kind ≢ 8) where
-      pub a_reset : r.kind ≡ 9 → reset b x ≡ one_record b x r
-      unfolding one_record
-      a_reset k = simp (e, ne_eqb r.kind 8 n, eq-eqb r.kind 9 k, choices)
+    pub a_reset : r.kind ≡ 9 → reset b x ≡ one_record b x r
+    unfolding one_record
+    a_reset k = simp (e, k, choices)
 
-      pub an_access : r.kind ≢ 9 → act x (access_of r) r.value (settled (map_of b x.state) (access_of r) r.value (target_of b x r)) ≡ one_record b x r
-      unfolding one_record
-      an_access k = simp (e, ne_eqb r.kind 8 n, ne_eqb r.kind 9 k, choices)
+    pub an_access : r.kind ≢ 8 → r.kind ≢ 9
+        → act x (access_of r) r.value (settled (map_of b x.state) (access_of r) r.value (target_of b x r)) ≡ one_record b x r
+    unfolding one_record
+    an_access n k = simp (e, ne_eqb r.kind 8 n, ne_eqb r.kind 9 k, choices)
 
 -- a run, which changes head and identity alone, and leaves the memories as they are
 pub run_done : (b : Board) (s : State) (table main cache : List ℕ) (budget : ℕ) (q : Ran)

@@ -1,30 +1,20 @@
 -- The replay over flat bytes is that of the definitions.
-use Prim.Native.Nat.{ℕ, zero, suc, ◌+◌, ◌-◌, ◌*◌, ◌/◌, ◌%◌, ◌≤◌, ◌<◌}
-use mathlib.Core.Path.{◌≡◌, refl, sym, ap, ◌∙◌}
-use mathlib.Core.List.{List, ◌++◌, append_assoc, append-nil}
-use native.Mathlib.Omega.{arith}
-use native.Mathlib.Nat.{sub-zero}
-use lib.ListN.{length, take, drop, length-append}
-use lib.Seq.{sets, sets-eq, length-sets, drop-drop, length-take-le, take_at, take_all}
+use Rattle.std.proofs.Common.{ℕ, zero, suc, ◌+◌, ◌-◌, ◌*◌, ◌/◌, ◌%◌, ◌≤◌, ◌<◌, ◌≡◌, refl, sym, ap, ◌∙◌, List, ◌++◌, append_assoc, append-nil, arith, length, take, drop, length-append, drop-drop, length-take-le, take_at, take_all}
+use Rattle.std.proofs.lemmas.List.Edits.{sets, sets-eq}
+use Rattle.std.proofs.Math.Nat.{sub-zero}
+use Rattle.std.proofs.Math.Seq.{length-sets}
 use Rattle.gmch.specs.Records.{record_of, answer_bytes}
 use Rattle.gmch.specs.Mapped.{line_of}
-use Rattle.gmch.specs.Ring.{with_head}
-use Rattle.gmch.specs.Config.{with_cf8, with_regs, config_write}
 use Rattle.gmch.specs.Machine.{Machine, machine}
-use Rattle.gmch.specs.Map.{map_of}
 use Rattle.gmch.specs.Access.{Out}
 use Rattle.gmch.specs.Replay.{one_record, answered, replay}
 use Rattle.gmch.specs.Call.{cut, joined}
 use Rattle.gmch.specs.declared.Board.{Board}
 use Rattle.gmch.specs.declared.State.{State}
-use Rattle.gmch.specs.declared.Map.{Map}
 use Rattle.gmch.specs.declared.Record.{Record}
-use Rattle.access.specs.Decide.{changed, applied, carried}
+use Rattle.access.specs.Decide.{applied, carried}
 use Rattle.replay.specs.Flat.{Flat, record_at, replay_from, Replays}
 use Rattle.access.specs.declared.Decided.{Decided}
-use Rattle.access.specs.declared.Effect.{Effect}
-use Rattle.access.specs.declared.Effect.TheVariants.{Keep, Ring, Select, Configure, Rarely}
-use Rattle.access.specs.declared.Rare.{Rare}
 use Rattle.records.proofs.Bytes.{length_answer}
 
 length_answered : (o : Out) → length (answered o) ≡ 16
@@ -97,34 +87,3 @@ module _ (b : Board) (records : List ℕ) where
         machines = ap (λ (y : Flat). y.after) f ∙ q.machines;
         answers = ap (λ (y : Flat). y.answers) f ∙ q.replies;
       }
-
--- ---- the state after an effect, with its map
-
-pub record Next (b : Board) (s : State) (e : Effect) (s' : State) (m' : Map) : Type 0 where
-  pub state : s' ≡ applied s e
-  pub map : m' ≡ map_of b s'
-
--- what an arm of the loop leaves
-pub next : (b : Board) (s : State) (e : Effect) {t s' : State} {m m' : Map} → s' ≡ t → m' ≡ m → t ≡ applied s e → m ≡ map_of b t → Next b s e s' m'
-next b s e p q r k = record { state = p ∙ r; map = rw p (q ∙ k) }
-
--- the effects that the loop carries out itself
-pub keep_is : (s : State) (e : Effect) → e ≡ Keep → s ≡ applied s e
-unfolding applied
-keep_is s e h = rw h
-
-pub select_is : (s : State) (e : Effect) (v : ℕ) → e ≡ Select v → with_cf8 s v ≡ applied s e
-unfolding applied
-select_is s e v h = rw h
-
-pub rare_is : (s : State) (e : Effect) (x : Rare) → e ≡ Rarely x → changed s x ≡ applied s e
-unfolding applied
-rare_is s e x h = rw h
-
-pub configure_is : (s : State) (e : Effect) (n width v : ℕ) → e ≡ Configure n width v → config_write s n width v ≡ applied s e
-unfolding applied
-configure_is s e n width v h = rw h
-
-pub ring_is : (s : State) (e : Effect) (head identity : ℕ) → e ≡ Ring head identity → with_regs s (with_head s.regs head identity) ≡ applied s e
-unfolding applied
-ring_is s e head identity h = rw h

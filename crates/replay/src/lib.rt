@@ -1,18 +1,21 @@
 // One record of any content, and a list of records replayed.
-// A record is decided on the parts of the state, with table and memories lent; the state is changed in the loop, by an effect,
+// A record is decided with the state only read, and table and memories lent; the state is changed in the loop, by an effect,
 // so that an access that reaches memory never copies it.
 #![tactic(auto)]
 
-ghost use Rattle.std.specs.Prelude.{◌≡◌, ◌%◌, length, get_or};
+ghost use Rattle.std.specs.Prelude.{◌≡◌, ◌%◌, Bool, length};
 ghost use Rattle.gmch.specs.Smram.{smram_error};
+ghost use Rattle.gmch.specs.Config.{with_once};
 ghost use Rattle.gmch.specs.Machine.{cache_length, machine};
-ghost use Rattle.gmch.specs.Map.{Tom, Sized, Cached, map_in};
+ghost use Rattle.gmch.specs.Map.{Tom, Sized, Cached, map_of};
 ghost use Rattle.gmch.specs.Replay.{run_reply, cold_table, one_record};
-ghost use Rattle.access.specs.Decide.{changed, state_of, Decides};
+ghost use Rattle.access.specs.Decide.{Sound, changed, applied, carried};
 ghost use Rattle.replay.specs.Flat.{Replays};
 
 use access::{Decided, Effect, Rare};
-use gmch::{Answer, Board, Map, Ran, Record, Regs, State, Target};
+use gmch::{Answer, Board, Entries, Map, Ran, Record, State, Target};
+use graphics::Translation;
+use ring::Parser;
 
 // ---- one record
 
@@ -23,29 +26,21 @@ fn with_error(smram: u8) -> u8
     smram / 2 * 2 + 1
 }
 
-// The state after what comes rarely.
-pub fn apply(s: State, e: Rare) -> State
-    ensures { result ≡ changed s e }
+// Changes the state by what comes rarely. Out of line: in line it takes registers from the parser's loop.
+#[tactic(auto, unfolding(access::specs::Decide::changed))]
+#[inline(never)]
+pub fn apply(s: &mut State, e: Rare)
+    ensures { s.new ≡ changed s.old e }
 {
     match e {
-        Rare::Store(o, v) => mapped::written(s, o, v),
-        Rare::StoreCache(o, v) => {
-            let d = s.dram;
-            let q = mapped::dram_written(d, o, v);
-            let mut t = s;
-            t.dram = q;
-            t
-        }
-        Rare::Error => {
-            let mut t = s;
-            t.dev0[0x70] = with_error(s.dev0[0x70]);
-            t
-        }
-        Rare::Reset(kind) => config::cold_start(kind),
+        Rare::Store(o, v) => *s = mapped::written(*s, o, v),
+        Rare::StoreCache(o, v) => s.dram = mapped::dram_written(s.dram, o, v),
+        Rare::Error => s.dev0[0x70] = with_error(s.dev0[0x70]),
+        Rare::Reset(kind) => *s = config::cold_start(kind),
     }
 }
 
-// A parser run's answer.
+// A parser run's answer. No `From`: both types are another crate's.
 fn run_reply(q: Ran) -> Answer
     ensures { result ≡ run_reply q }
 {
@@ -58,118 +53,117 @@ fn run_reply(q: Ran) -> Answer
     }
 }
 
-// Zeroes the translation table. `decide` shows its length.
-fn zero(table: &mut [u32])
-    requires { length table.old ≡ 16384 }
-    ensures { table.new ≡ cold_table }
-{
-    let n = table.len();
-    let mut i = 0;
-    while i < n {
-        table[i] = 0;
-        i = i + 1;
-    }
-}
-
 // Decides a record: its answer and its effect; table and memories are changed here. `replay` shows the lengths.
-pub fn decide<'a>(
+// Table, main memory and display cache as one struct would be no plainer: each callee takes others of them, and would take it apart.
+pub fn decide(
     b: Board,
     m: Map,
-    cf8: u32,
-    dev0: &'a [u8; 256],
-    dev1: &'a [u8; 256],
-    fences: &'a [u32; 8],
-    regs: Regs,
-    dram: &'a [u32; 3],
-    table: &mut [u32],
+    s: &State,
+    table: &mut Entries,
     memory: &mut [u8],
     display: &mut [u8],
     r: Record,
 ) -> Decided
-    requires { (m ≡ map_in b dev0.now dev1.now (get_or dram.now 0 0)) × Sized m table.old memory.old × Cached m display.old }
-    ensures { Decides (state_of cf8 dev0.now dev1.now fences.now regs dram.now) table.new memory.new display.new result (λ s. one_record b (machine s table.old memory.old display.old) r) }
+    requires { (m ≡ map_of b s.now) × Sized m table.old memory.old × Cached m display.old }
+    ensures outcome { (c e : Bool) → carried (with_once s.now c e) table.new memory.new display.new result ≡ one_record b (machine (with_once s.now c e) table.old memory.old display.old) r }
+    ensures sound { Sound result.effect }
 {
     if !records::well_formed(r) {
         return access::done(Target::Refused(13, 0), 0, Effect::Keep);
     }
-    if r.kind == 8 {
-        let q = ring::run(m, table, memory, display, r.value, regs);
-        return Decided {
-            answer: run_reply(q),
-            effect: Effect::Ring(q.regs.head, q.regs.identity),
-        };
+    let translation = Translation {
+        map: m,
+        control: s.regs.control,
+        table,
+        memory,
+    };
+    match r.kind {
+        8 => {
+            let parser = Parser {
+                translation,
+                display,
+            };
+            let q = parser.run(r.value, s.regs);
+            Decided {
+                answer: run_reply(q),
+                effect: Effect::Ring(q.regs.head, q.regs.identity),
+            }
+        }
+        9 => {
+            table.fill(0);
+            Decided {
+                answer: records::reset_reply(),
+                effect: Effect::Rarely(Rare::Reset(b.kind)),
+            }
+        }
+        _ => {
+            let a = records::access_of(r);
+            let t = access::target_of(&translation, s, r.kind, a);
+            access::act(m, s, table, memory, display, a, r.value, t)
+        }
     }
-    if r.kind == 9 {
-        zero(table);
-        return Decided {
-            answer: records::reset_reply(),
-            effect: Effect::Rarely(Rare::Reset(b.kind)),
-        };
-    }
-    let a = records::access_of(r);
-    let t = access::target_of(m, dev0, cf8, fences, regs.control, table, memory, r.kind, a);
-    access::act(
-        m, cf8, dev0, dev1, fences, regs, dram, table, memory, display, a, r.value, t,
-    )
 }
 
 // ---- a list of records
 
-// Replays the records in order, and answers each. The host's call shows the lengths.
+// Carries out what a record asks of the state, with the map read off it again where that may change. `replay` shows that the
+// bytes written are there.
+#[tactic(auto, unfolding(access::specs::Decide::applied))]
+fn carry_out(b: Board, s: &mut State, m: &mut Map, e: Effect)
+    requires { (m.old ≡ map_of b s.old) × Sound e }
+    ensures state { s.new ≡ applied s.old e }
+    ensures map { m.new ≡ map_of b s.new }
+{
+    match e {
+        Effect::Keep => {}
+        Effect::Ring(head, identity) => {
+            s.regs.head = head;
+            s.regs.identity = identity;
+        }
+        Effect::Select(v) => s.cf8 = v,
+        Effect::Configure(n, width, v) => {
+            let data = config::access::effective(n, s.dev1[0xE0], v);
+            let bits = rows::bits_of(n / 4, s.wrote2c, s.wrote2e);
+            let wrote2c = config::access::is_touched(0x12C, n, width);
+            let wrote2e = config::access::is_touched(0x12E, n, width);
+            if n < 256 {
+                config::access::write(&mut s.dev0, bits, n, width, data);
+            } else {
+                config::access::write(&mut s.dev1, bits, n, width, data);
+            }
+            s.wrote2c |= wrote2c;
+            s.wrote2e |= wrote2e;
+            *m = access::map_of(b, s);
+        }
+        Effect::Rarely(x) => {
+            apply(s, x);
+            *m = access::map_of(b, s);
+        }
+    }
+}
+
+// Replays the records in order, and answers each. The host's call shows the lengths. No zip of chunks: `record_at` and `put_answer` take
+// a list and a place, and would be given place 0 of each chunk.
 pub fn replay(
     b: Board,
     start: State,
-    table: &mut [u32],
+    table: &mut Entries,
     memory: &mut [u8],
     records: &[u8],
     answers: &mut [u8],
     display: &mut [u8],
 ) -> State
-    requires { Tom b.tom × (length table.old ≡ 16384) × (length memory.old ≡ b.tom) × (length records.now % 16 ≡ 0) × (length answers.old ≡ length records.now) × (length display.old ≡ cache_length b.kind) }
+    requires { Tom b.tom × (length memory.old ≡ b.tom) × (length records.now % 16 ≡ 0) × (length answers.old ≡ length records.now) × (length display.old ≡ cache_length b.kind) }
     ensures { Replays b (machine start table.old memory.old display.old) records.now (machine result table.new memory.new display.new) answers.new }
 {
-    let n = records.len();
     let mut s = start;
     // Read off the state once, and again after each effect that may change it.
-    let mut m = access::map_of(b, &s.dev0, &s.dev1, &s.dram);
-    let mut at = 0;
-    while at < n {
+    let mut m = access::map_of(b, &s);
+    for at in (0..records.len()).step_by(16) {
         let r = records::record_at(records, at);
-        let regs = s.regs;
-        let d = decide(
-            b, m, s.cf8, &s.dev0, &s.dev1, &s.fences, regs, &s.dram, table, memory, display, r,
-        );
-        let e = d.effect;
-        match e {
-            Effect::Keep => {}
-            Effect::Ring(head, identity) => {
-                s.regs.head = head;
-                s.regs.identity = identity;
-            }
-            Effect::Select(v) => {
-                s.cf8 = v;
-            }
-            Effect::Configure(n, width, v) => {
-                let data = config::access::effective(n, s.dev1[0xE0], v);
-                let bits = rows::bits_of(n / 4, s.wrote2c, s.wrote2e);
-                let wrote2c = config::access::is_touched(0x12C, n, width);
-                let wrote2e = config::access::is_touched(0x12E, n, width);
-                if n < 256 {
-                    config::access::write(&mut s.dev0, bits, n, width, data);
-                } else {
-                    config::access::write(&mut s.dev1, bits, n, width, data);
-                }
-                s.wrote2c = s.wrote2c | wrote2c;
-                s.wrote2e = s.wrote2e | wrote2e;
-                m = access::map_of(b, &s.dev0, &s.dev1, &s.dram);
-            }
-            Effect::Rarely(x) => {
-                s = apply(s, x);
-                m = access::map_of(b, &s.dev0, &s.dev1, &s.dram);
-            }
-        }
+        let d = decide(b, m, &s, table, memory, display, r);
+        carry_out(b, &mut s, &mut m, d.effect);
         records::put_answer(answers, at, d.answer, mapped::line(s.regs));
-        at = at + 16;
     }
     s
 }

@@ -1,5 +1,4 @@
-use mathlib.Core.Path.{refl}
-use native.Mathlib.Omega.{arith}
+use Rattle.std.proofs.Common.{refl, arith}
 use Rattle.gmch.specs.Replay.{cold_table}
 use Rattle.gmch.proofs.Choice.{flag}
 use Rattle.desk.proofs.Laws.{good, refused, replayed}
@@ -17,7 +16,7 @@ overflow_cast-b c =
 pub replay-requires : goal.replay-requires
 replay-requires c =
     let g = good _ _ _ _ (flag c.good_call.ensures c.if-not-good_call.false) in
-    (g.tom, refl, refl, g.whole, g.same, g.lends)
+    (g.tom, refl, g.whole, g.same, g.lends)
 
 pub returns : goal.returns
 unfolding cold_table
