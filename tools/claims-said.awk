@@ -6,13 +6,21 @@ function fact(kind, what) {
 }
 
 # The function that stands at this line of a crate's file, or begins there with an attribute.
-function at(path, number,    line, count, name, module) {
+function at(path, number,    line, count, name, module, type) {
     path = "crates/" crate "/" path
-    while ((count++ < number || line ~ /^ *#\[/) && (getline line <path) > 0)
+    while ((count++ < number || line ~ /^ *#\[/) && (getline line <path) > 0) {
+        if (line ~ /^}/) type = ""
+        if (match(line, /^impl(<[^>]*>)? ([^{]* for )?[A-Za-z0-9_]+/)) {
+            type = substr(line, RSTART, RLENGTH)
+            sub(/.* /, "", type)
+            type = type "::"
+        }
         if (match(line, /^ *(pub )?(extern "C" )?fn [a-z0-9_]+/)) {
             name = substr(line, RSTART, RLENGTH)
             sub(/.* /, "", name)
+            name = type name
         }
+    }
     close(path)
     module = path
     sub(/.*\/src\//, "", module)
@@ -40,7 +48,7 @@ function at(path, number,    line, count, name, module) {
         fact("own", file)
     } else if (file ~ /^proofs\// && match(said, /error: `[^`]+`: /))
         fact("own", "crates/" crate "/" file ": " substr(said, RSTART + 8, RLENGTH - 11))
-    else if (file ~ /^src\// && said ~ /it is not proved that /)
+    else if (file ~ /^src\// && said ~ /it is not proved that |`search` found no proof/)
         fact("own", at(file, place[2]))
     else
         fact("void", substr(said, 1, 200))
