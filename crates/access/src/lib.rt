@@ -115,7 +115,7 @@ fn resolve(t: &Translation, s: &State, a: Access, route: Route) -> Target
 }
 
 // An access of kinds 1 to 7.
-#[tactic(auto, using(crate::proofs::Bounds::route_ready), unfolding(gmch::specs::Access::target_in, gmch::specs::Choice::pick))]
+#[tactic(auto, using(crate::proofs::Bounds::route_inside), unfolding(gmch::specs::Access::target_in, gmch::specs::Choice::pick))]
 pub fn target_of(t: &Translation, s: &State, kind: u32, a: Access) -> Target
     ensures { result ≡ target_in t.now.map (shadow_in s.now.dev0) s.now.cf8 s.now.fences t.now.control (look t.now) kind a }
 {
@@ -157,14 +157,17 @@ fn in_memory(memory: &mut [u8], write: bool, width: u32, v: u32, p: u32) -> u32
     }
 }
 
-// At a memory-mapped register: the value read. Entries of the private table are stored here, all else is left to the state.
-#[tactic(auto, unfolding(gmch::specs::Choice::pick))]
+// At a memory-mapped register: the value read. Entries of the private table are stored here, all else is left to the state. An entry is
+// read here too: `value` takes the fences and the registers, and the compiler would copy them for it.
+#[tactic(auto, unfolding(gmch::specs::Choice::pick, gmch::specs::Mapped::mapped_value))]
 fn at_mapped(s: &State, table: &mut Entries, write: bool, v: u32, o: u32) -> u32
     ensures { (result ≡ pick write 0 (mapped_value s.now.fences s.now.regs table.old o)) × (table.new ≡ pick write (table_written table.old o v) table.old) }
 {
     if write {
         mapped::table_written(table, o, v);
         0
+    } else if mapped::is_entry(o) {
+        table[mapped::entry_number(o)]
     } else {
         mapped::value(s.fences, s.regs, table, o)
     }
