@@ -33,10 +33,15 @@ in_window h registers_safe = tt
 in_window h (offset_safe o l k) = omega arith
 
 -- the route of an access that code 2 lets pass
-pub route_ready : (t : Translation) (q : Shadow) (a : Access) (r : Route) → fits_word a.width a.address ≡ true → r ≡ route_of t.map q a → InWindow r
-route_ready t q a r f k =
+pub route_ready : (table main : List ℕ) (m : Map) (q : Shadow) (a : Access) (r : Route) → Sized m table main → fits_word a.width a.address ≡ true
+    → r ≡ route_of m q a → Sized m table main × InWindow r
+route_ready table main m q a r z f k =
     let h = (fits_width a.width a.address f).1 in
-    rw k (in_window t.sized.1 (route_safe t.map t.sized.0 a h q t.sized.2))
+    rw k (z, in_window z.1 (route_safe m z.0 a h q z.2))
+
+-- the same of a translation, which holds that it is sized
+pub route_inside : (t : Translation) (q : Shadow) (a : Access) (r : Route) → fits_word a.width a.address ≡ true → r ≡ route_of t.map q a → InWindow r
+route_inside t q a r f k = (route_ready _ _ t.map q a r t.sized f k).1
 
 -- ---- targets
 

@@ -5,6 +5,8 @@ use Rattle.std.proofs.Math.Nat.{sub-zero}
 use Rattle.std.proofs.Math.Seq.{length-sets}
 use Rattle.gmch.specs.Records.{record_of, answer_bytes}
 use Rattle.gmch.specs.Mapped.{line_of}
+use Rattle.gmch.specs.Ring.{with_head}
+use Rattle.gmch.specs.Config.{with_regs}
 use Rattle.gmch.specs.Machine.{Machine, machine}
 use Rattle.gmch.specs.Access.{Out}
 use Rattle.gmch.specs.Replay.{one_record, answered, replay}
@@ -15,6 +17,8 @@ use Rattle.gmch.specs.declared.Record.{Record}
 use Rattle.access.specs.Decide.{applied, carried}
 use Rattle.replay.specs.Flat.{Flat, record_at, replay_from, Replays}
 use Rattle.access.specs.declared.Decided.{Decided}
+use Rattle.access.specs.declared.Effect.{Effect}
+use Rattle.access.specs.declared.Effect.TheVariants.{Ring}
 use Rattle.records.proofs.Bytes.{length_answer}
 
 length_answered : (o : Out) → length (answered o) ≡ 16
@@ -87,3 +91,9 @@ module _ (b : Board) (records : List ℕ) where
         machines = ap (λ (y : Flat). y.after) f ∙ q.machines;
         answers = ap (λ (y : Flat). y.answers) f ∙ q.replies;
       }
+
+-- ---- what an effect leaves of the state: a run's
+
+pub ring_is : (s : State) (e : Effect) (head identity : ℕ) → e ≡ Ring head identity → with_regs s (with_head s.regs head identity) ≡ applied s e
+unfolding applied
+ring_is s e head identity h = rw h

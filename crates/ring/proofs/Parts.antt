@@ -1,5 +1,5 @@
 -- A run by its steps.
-use Rattle.std.proofs.Common.{ℕ, ◌-◌, ◌≤◌, ◌≡◌, sym, subst, ◌∙◌, Bool, List, arith}
+use Rattle.std.proofs.Common.{ℕ, ◌+◌, ◌-◌, ◌≤◌, ◌<◌, ◌≡◌, sym, subst, ◌∙◌, Bool, List, arith}
 use Rattle.gmch.specs.Machine.{Memories}
 use Rattle.gmch.specs.Table.{fetch_in}
 use Rattle.gmch.specs.Ring.{step, Parsed, parsed, run, words_left}
@@ -16,6 +16,12 @@ pub at_flag : (m : Map) (control : ℕ) (table : List ℕ) (memories : Memories)
 at_flag m control table memories r {b} {s} e f g =
     let P : Bool → Type 0 = λ (b : Bool). s ≡ step (fetch_in (record m { cache = b }) control table memories) r in
     sym (subst P (sym e) f) ∙ g
+
+-- a count that goes down from the budget is one that goes up: one step less is left, then none
+pub one_less : (fetch : Memories → ℕ → Look) (budget left : ℕ) (r : Regs) (memories : Memories) (q : Parsed) → 0 < left → left ≤ budget
+    → run fetch (budget - (budget - left + 1)) (budget - left + 1) r memories ≡ q
+    → run fetch (budget - (budget - (left - 1))) (budget - (left - 1)) r memories ≡ q
+one_less fetch budget left r memories q h l rest = let e : budget - left + 1 ≡ budget - (left - 1) = omega arith in rw e at rest
 
 pub none_left : (fetch : Memories → ℕ → Look) (budget count : ℕ) (r : Regs) (memories : Memories) {q : Parsed} → count ≡ budget
     → run fetch (budget - count) count r memories ≡ q → parsed 0 r budget memories ≡ q

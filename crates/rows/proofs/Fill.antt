@@ -24,7 +24,7 @@ row_at i = get_or rows i zero_row
 abbrev pub filled_by : ℕ → List ℕ → Row → List ℕ
 filled_by device a r = pick (eqb (r.at / 256) device) (store_le r.width (r.at % 256) r.default a) a
 
-filled_defaults : (device : ℕ) → device < 2 → fold (filled_by device) (replicate 256 0) rows ≡ defaults_from (device * 256) 256
+pub filled_defaults : (device : ℕ) → device < 2 → fold (filled_by device) (replicate 256 0) rows ≡ defaults_from (device * 256) 256
 unfolding rows defaults_from masks_of row_in store_le pick within ◌and◌
 filled_defaults zero h = refl
 filled_defaults (suc zero) h = refl
