@@ -17,7 +17,7 @@ loop-at-preserved c =
       whole = omega arith;
       table = search rules;
       map = c.carry_out.ensures.map;
-      rest = turn _ _ _ _ _ _ _ _ _ _ _ _ _ _ _ _ h.whole c.requires.2 c.loop-at-test.true c.record_at-r.ensures (c.decide-d.ensures.outcome _ _) c.carry_out.ensures.state c.line.ensures c.put_answer.ensures ∙ h.rest;
+      rest = turn _ _ _ _ _ _ _ _ _ _ _ _ _ _ _ _ h.whole c.requires.2 (omega arith) c.record_at-r.ensures (c.decide-d.ensures.outcome _ _) c.carry_out.ensures.state c.line.ensures c.put_answer.ensures ∙ h.rest;
     }
 
 pub returns-2 : goal.returns-2
@@ -25,7 +25,7 @@ returns-2 c =
     let h = c.loop-at.invariant in
     let q = c.requires in
     finished _ _ _ _ _ _ _ q.2 q.3 (omega arith)
-    (turn _ _ _ _ _ _ _ _ _ _ _ _ _ _ _ _ h.whole q.2 c.loop-at-test.true c.record_at-r.ensures (c.decide-d.ensures.outcome _ _) c.carry_out.ensures.state c.line.ensures c.put_answer.ensures ∙ h.rest)
+    (turn _ _ _ _ _ _ _ _ _ _ _ _ _ _ _ _ h.whole q.2 (omega arith) c.record_at-r.ensures (c.decide-d.ensures.outcome _ _) c.carry_out.ensures.state c.line.ensures c.put_answer.ensures ∙ h.rest)
 
 pub returns : goal.returns
 returns c =
