@@ -115,7 +115,7 @@ fn resolve(t: &Translation, s: &State, a: Access, route: Route) -> Target
 }
 
 // An access of kinds 1 to 7.
-#[tactic(auto, using(crate::proofs::Bounds::route_inside), unfolding(gmch::specs::Access::target_in, gmch::specs::Choice::pick))]
+#[tactic(auto, unfolding(gmch::specs::Access::target_in, gmch::specs::Choice::pick))]
 pub fn target_of(t: &Translation, s: &State, kind: u32, a: Access) -> Target
     ensures { result ≡ target_in t.now.map (shadow_in s.now.dev0) s.now.cf8 s.now.fences t.now.control (look t.now) kind a }
 {
